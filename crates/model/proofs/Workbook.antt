@@ -1,0 +1,169 @@
+-- The workbook's examples, P1 to P12, and an example of each refusal number: computed from the definitions, on bytes.
+-- Assumes nothing.
+use Prim.Native.Nat.{ℕ, zero, suc, _+_}
+use mathlib.Core.Path.{_≡_, refl}
+use mathlib.Core.List.{List, [], _∷_, _++_, map}
+use lib.ListN.{replicate}
+use lib.IntN.{ℤ, pos, negsuc}
+use Rattle.model.specs.declared.Ty.{Ty}
+use Rattle.model.specs.declared.Outcome.{Outcome}
+use Rattle.model.specs.declared.Outcome.the-variants.{Value, Fault}
+use Rattle.model.specs.Bytes.{valueBytes}
+use Rattle.model.specs.Values.{bool}
+use Rattle.model.specs.Expressions.{Read, bad, got, Exp, expression, valueOf}
+use Rattle.model.specs.Calls.{Answer, accepted, loaded-with, marks, done, idle, spent, written, refused, After, checkCall, loadCall, markCall, cycleCall, runCall, writeCall}
+use Rattle.model.specs.Printing.{printed}
+use Rattle.model.specs.Opened.{opened}
+
+-- ── the workbook's files ─────────────────────────────────────────────────────────────────────
+
+-- INC, both of its wires of capacity c
+unfoldable inc : ℕ → List ℕ
+inc c = 1 ∷ 0 ∷ 3 ∷ 1 ∷ 8 ∷ c ∷ 1 ∷ 0 ∷ 3 ∷ 1 ∷ 8 ∷ c ∷ 2 ∷ 0 ∷ 5 ∷ 1 ∷ 1 ∷ 0 ∷ 0 ∷ 1 ∷ 3 ∷ 0 ∷ 19 ∷ 1 ∷ 0 ∷ 0 ∷ 1 ∷ 0 ∷ 0 ∷ 0 ∷ 1 ∷ 1 ∷ 10 ∷ 1 ∷ 0 ∷ 0 ∷ 1 ∷ 8 ∷ 0 ∷ 0 ∷ 0 ∷ 1 ∷ 4 ∷ 0 ∷ 1 ∷ 0 ∷ 5 ∷ 0 ∷ 3 ∷ 1 ∷ 0 ∷ 8 ∷ []
+
+-- the tokens 1, 2, 127
+unfoldable three : List ℕ
+three = 32 ∷ 0 ∷ 15 ∷ 0 ∷ 0 ∷ 0 ∷ 0 ∷ 1 ∷ 0 ∷ 0 ∷ 0 ∷ 0 ∷ 2 ∷ 0 ∷ 0 ∷ 0 ∷ 0 ∷ 127 ∷ []
+
+-- a box wired to itself through capacity 1, reading and writing in its one rule
+unfoldable loop : List ℕ
+loop = 1 ∷ 0 ∷ 3 ∷ 1 ∷ 8 ∷ 1 ∷ 2 ∷ 0 ∷ 5 ∷ 1 ∷ 1 ∷ 0 ∷ 0 ∷ 0 ∷ 3 ∷ 0 ∷ 19 ∷ 1 ∷ 0 ∷ 0 ∷ 1 ∷ 0 ∷ 0 ∷ 0 ∷ 1 ∷ 1 ∷ 10 ∷ 1 ∷ 0 ∷ 0 ∷ 1 ∷ 8 ∷ 0 ∷ 0 ∷ 0 ∷ 1 ∷ []
+
+-- an input wired to an output, bool, capacity and room 1; no tokens
+unfoldable through : List ℕ
+through = 1 ∷ 0 ∷ 3 ∷ 0 ∷ 1 ∷ 1 ∷ 4 ∷ 0 ∷ 1 ∷ 0 ∷ 5 ∷ 0 ∷ 3 ∷ 0 ∷ 0 ∷ 1 ∷ []
+
+unfoldable none-for-one : List ℕ
+none-for-one = 32 ∷ 0 ∷ 0 ∷ []
+
+-- a box whose one guard asks whether 1 / 0 is 0
+unfoldable by-zero : List ℕ
+by-zero = 2 ∷ 0 ∷ 3 ∷ 0 ∷ 0 ∷ 0 ∷ 3 ∷ 0 ∷ 23 ∷ 20 ∷ 13 ∷ 0 ∷ 1 ∷ 2 ∷ 0 ∷ 0 ∷ 0 ∷ 1 ∷ 0 ∷ 1 ∷ 2 ∷ 0 ∷ 0 ∷ 0 ∷ 0 ∷ 0 ∷ 1 ∷ 2 ∷ 0 ∷ 0 ∷ 0 ∷ 0 ∷ []
+
+-- ── what a row shows ─────────────────────────────────────────────────────────────────────────
+
+data Shown : Type 0 where
+  sets : List Answer → Shown
+  answers : Answer → Shown
+  works : Outcome → Shown
+  prints : List ℕ → Shown
+
+record Row : Type 0 where
+  shown : Shown
+  stated : Shown
+
+-- the state's bytes after a load over n bytes of old contents
+unfoldable start : List ℕ → List ℕ → ℕ → List ℕ
+unfolding opened
+start s ts n = (loadCall s ts (replicate n 170)) .bytes
+
+-- what is marked in the first c cycles from a state
+unfoldable history : List ℕ → List ℕ → ℕ → List ℕ → List Answer
+unfolding opened
+history s ts zero st = []
+history s ts (suc c) st = (markCall s ts st) .answer ∷ history s ts c ((runCall s ts st 1) .bytes)
+
+-- a run of budget b from a load over n bytes
+unfoldable ran : List ℕ → List ℕ → ℕ → ℕ → Answer
+unfolding opened start
+ran s ts n b = (runCall s ts (start s ts n) b) .answer
+
+unfoldable signed : ℕ → Ty
+signed p = record { kind = 1; p = p }
+
+unfoldable unsigned : ℕ → Ty
+unsigned p = record { kind = 2; p = p }
+
+-- the bytes of a literal
+unfoldable lit : Ty → ℤ → List ℕ
+unfolding opened
+lit t z = 0 ∷ t .kind ∷ t .p ∷ valueBytes z
+
+unfoldable valueRead : Read Exp → Outcome
+unfolding opened
+valueRead bad = Fault 1
+valueRead (got e n) = valueOf (record { scope = record { ins = []; vars = [] }; ins = []; vars = [] }) e
+
+-- the expression in bytes, worked out
+unfoldable worked : List ℕ → Shown
+unfolding valueRead opened
+worked b = works (valueRead (expression b))
+
+-- an operator over two literals of one type
+unfoldable calc : ℕ → Ty → ℤ → ℤ → Shown
+unfolding worked lit
+calc o t a b = worked (o ∷ (lit t a ++ lit t b))
+
+-- ── P1 to P12 ────────────────────────────────────────────────────────────────────────────────
+
+unfoldable table : List Row
+unfolding inc three loop start history ran signed unsigned lit worked calc opened
+table =
+    -- P1, INC marks 2, 1, 6, 1, 6, 1, 4 in cycles 1 to 7; then nothing
+    record { shown = sets (history (inc 1) three 8 (start (inc 1) three 56)); stated = sets (map marks (2 ∷ 1 ∷ 6 ∷ 1 ∷ 6 ∷ 1 ∷ 4 ∷ 0 ∷ [])) }
+    -- P2, with both capacities 2 it is idle after 5, and its third cycle marks 7
+    ∷ record { shown = answers (ran (inc 2) three 66 1000); stated = answers (idle 5) }
+    ∷ record { shown = sets (history (inc 2) three 3 (start (inc 2) three 66)); stated = sets (map marks (2 ∷ 3 ∷ 7 ∷ [])) }
+    -- P3, budget 6 answers spent, budget 7 idle
+    ∷ record { shown = answers (ran (inc 1) three 56 6); stated = answers (spent 6) }
+    ∷ record { shown = answers (ran (inc 1) three 56 7); stated = answers (idle 7) }
+    -- P4, -7 / 2 = -3 and -7 mod 2 = -1
+    ∷ record { shown = calc 13 (signed 8) (negsuc 6) (pos 2); stated = works (Value (signed 8) (negsuc 2)) }
+    ∷ record { shown = calc 14 (signed 8) (negsuc 6) (pos 2); stated = works (Value (signed 8) (negsuc 0)) }
+    -- P5, signed 8: -128 / -1 = -128
+    ∷ record { shown = calc 13 (signed 8) (negsuc 127) (negsuc 0); stated = works (Value (signed 8) (negsuc 127)) }
+    -- P6, unsigned 4: 15 + 1 = 0, 0 - 1 = 15
+    ∷ record { shown = calc 10 (unsigned 4) (pos 15) (pos 1); stated = works (Value (unsigned 4) (pos 0)) }
+    ∷ record { shown = calc 11 (unsigned 4) (pos 0) (pos 1); stated = works (Value (unsigned 4) (pos 15)) }
+    -- P7, signed 4: 7 * 7 = 1
+    ∷ record { shown = calc 12 (signed 4) (pos 7) (pos 7); stated = works (Value (signed 4) (pos 1)) }
+    -- P8, signed 8: -2 >> 1 = 127
+    ∷ record { shown = worked (19 ∷ (lit (signed 8) (negsuc 1) ++ lit (unsigned 5) (pos 1))); stated = works (Value (signed 8) (pos 127)) }
+    -- P9, unsigned 4: 12 lnand 10 = 7
+    ∷ record { shown = calc 17 (unsigned 4) (pos 12) (pos 10); stated = works (Value (unsigned 4) (pos 7)) }
+    -- P10, cast of signed 8 -1 to unsigned 4 = 15
+    ∷ record { shown = worked (3 ∷ 2 ∷ 4 ∷ lit (signed 8) (negsuc 0)); stated = works (Value (unsigned 4) (pos 15)) }
+    -- P11, the box wired to itself is never marked, its wire empty or full
+    ∷ record { shown = sets (history loop [] 1 (start loop [] 6) ++ history loop [] 1 (1 ∷ 0 ∷ 0 ∷ 0 ∷ 0 ∷ 5 ∷ [])); stated = sets (map marks (0 ∷ 0 ∷ [])) }
+    -- P12, the empty network is idle after 0
+    ∷ record { shown = answers (ran [] [] 0 1000); stated = answers (idle 0) }
+    -- and what the run program prints for INC
+    ∷ record { shown = prints (printed (inc 1) three); stated = prints (111 ∷ 117 ∷ 116 ∷ 99 ∷ 111 ∷ 109 ∷ 101 ∷ 32 ∷ 105 ∷ 100 ∷ 108 ∷ 101 ∷ 32 ∷ 99 ∷ 121 ∷ 99 ∷ 108 ∷ 101 ∷ 115 ∷ 32 ∷ 55 ∷ 10 ∷ 111 ∷ 117 ∷ 116 ∷ 32 ∷ 48 ∷ 58 ∷ 32 ∷ 50 ∷ 32 ∷ 51 ∷ 32 ∷ 45 ∷ 49 ∷ 50 ∷ 56 ∷ 10 ∷ []) }
+    ∷ []
+
+-- the one statement: every row shows what the workbook writes
+workbook : map (λ (r : Row). r .shown) table ≡ map (λ (r : Row). r .stated) table
+unfolding table
+workbook = refl
+
+-- ── a smallest argument for each refusal number, with its place ──────────────────────────────
+
+unfoldable refusals : List Row
+unfolding inc through none-for-one by-zero start opened
+refusals =
+    -- 1, a field cut short
+    record { shown = answers (checkCall (1 ∷ [])); stated = answers (refused 1 0 0) }
+    -- 2, a budget of 65,536; a wire with p = 0
+    ∷ record { shown = answers ((runCall [] [] [] 65536) .answer); stated = answers (refused 2 0 0) }
+    ∷ record { shown = answers (checkCall (1 ∷ 0 ∷ 3 ∷ 1 ∷ 0 ∷ 1 ∷ [])); stated = answers (refused 2 0 0) }
+    -- 3, a wire without ports
+    ∷ record { shown = answers (checkCall (1 ∷ 0 ∷ 3 ∷ 1 ∷ 8 ∷ 1 ∷ [])); stated = answers (refused 3 0 0) }
+    -- 4, a bool with p = 2
+    ∷ record { shown = answers (checkCall (1 ∷ 0 ∷ 3 ∷ 0 ∷ 2 ∷ 1 ∷ [])); stated = answers (refused 4 0 0) }
+    -- 5, a byte where no field is asked for; a missing field
+    ∷ record { shown = answers ((loadCall [] (0 ∷ []) []) .answer); stated = answers (refused 5 0 0) }
+    ∷ record { shown = answers ((loadCall (inc 1) [] []) .answer); stated = answers (refused 5 0 0) }
+    -- 6, no state lent, 15 bytes needed; no output buffer lent, 3 bytes needed
+    ∷ record { shown = answers ((loadCall through none-for-one []) .answer); stated = answers (refused 6 15 0) }
+    ∷ record { shown = answers ((writeCall through (start through none-for-one 15) []) .answer); stated = answers (refused 6 3 0) }
+    -- 7, two tokens on a wire of capacity 1
+    ∷ record { shown = answers ((markCall through none-for-one (2 ∷ replicate 14 0)) .answer); stated = answers (refused 7 0 0) }
+    -- 8, an order that names a process where none is marked
+    ∷ record { shown = answers ((cycleCall [] [] [] (0 ∷ [])) .answer); stated = answers (refused 8 0 0) }
+    -- 9, a zero divisor in a guard
+    ∷ record { shown = answers ((runCall by-zero [] [] 1000) .answer); stated = answers (refused 9 0 0) }
+    ∷ []
+
+refusal-examples : map (λ (r : Row). r .shown) refusals ≡ map (λ (r : Row). r .stated) refusals
+unfolding refusals
+refusal-examples = refl
