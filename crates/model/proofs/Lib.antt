@@ -1,2 +1,7 @@
 -- Theorems about the definitions.
 pub mod Workbook
+pub mod Wires
+pub mod Order
+pub mod Readiness
+pub mod Sound
+pub mod OrderCheck
