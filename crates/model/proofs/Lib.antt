@@ -5,3 +5,4 @@ pub mod Order
 pub mod Readiness
 pub mod Sound
 pub mod OrderCheck
+pub mod Accepted
