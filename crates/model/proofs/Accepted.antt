@@ -16,7 +16,7 @@ use Rattle.model.specs.declared.Field.the-variants.{At, Cut}
 use Rattle.model.specs.Bytes.{twoAt, stretch}
 use Rattle.model.specs.Expressions.{expressionLimits}
 use Rattle.model.specs.Rules.{Shape, Rule, ruleRead, actionLimits}
-use Rattle.model.proofs.Readiness.{and-left}
+use Rattle.model.proofs.Tests.{and₅}
 use Rattle.model.specs.NetworkFile.{Index, noFields, fieldAt, faultOf, wireForm, wireLimits, wireTypeFits, boxForm, boxLimits, boxTypes, ruleIn, ruleForm, ruleLimits, ruleTypes, inputForm, outputForm, outputLimits, bodyAt, wiresOf, shapeAt, rulesEnd, ruleAt, inOrder, fieldFault, addField, Verdict, good, refuse, Step, stop, go, onward, onField, step, walk, fields}
 
 -- ── one induction for all facts ──────────────────────────────────────────────────────────────
@@ -395,7 +395,8 @@ field-found s tag start len at = by-head (ltb (length s) (at + 3)) (ltb (length 
 
 rule-count : (seen : ℕ) (b : List ℕ) (r : Rule) → ruleLimits seen b r ≡ true → seen < 16
 unfolding ruleLimits
-rule-count seen b r e = ltb-true seen 16 (and-left _ (leb (length b) 512) (and-left _ (expressionLimits (r .guard)) (and-left _ (actionLimits (r .outs)) (and-left _ (actionLimits (r .sets)) e))))
+rule-count seen b r e =
+    ltb-true seen 16 ((and₅ (ltb seen 16) (leb (length b) 512) (expressionLimits (r .guard)) (actionLimits (r .outs)) (actionLimits (r .sets)) e) .0)
 
 module _ (s : List ℕ) where
   with-field : (x : Index) (tag at : ℕ) → Valid s x → InFile s at → Added s x (bodyAt s at) tag → Valid s (addField x tag at)

@@ -1,8 +1,12 @@
 -- Theorems about the definitions.
 pub mod Workbook
+pub mod Tests
 pub mod Wires
 pub mod Order
 pub mod Readiness
 pub mod Sound
 pub mod OrderCheck
 pub mod Accepted
+pub mod Decoded
+pub mod Whole
+pub mod AnyOrder

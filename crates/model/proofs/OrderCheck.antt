@@ -19,7 +19,7 @@ use Rattle.model.specs.Network.{Net, State}
 use Rattle.model.specs.NetworkFile.{hit, count}
 use Rattle.model.specs.Cycles.{bits, has, isOrder, markedOf, markedSet, processes, mark}
 use Rattle.model.proofs.Order.{remove, without, hit-same, hit-other, count-remove}
-use Rattle.model.proofs.Readiness.{and-left, and-right}
+use Rattle.model.proofs.Tests.{both, and-left, and-right}
 use Rattle.model.proofs.Sound.{marked-le, upFrom-once}
 
 -- ── by names: each process named is struck off a list, which ends empty ──────────────────────
@@ -39,10 +39,6 @@ order-sound (m ∷ ms) [] t j = let z : _≡_ {A = ℕ} 0 1 = cc in absurd (omeg
 order-sound ms (k ∷ ks) t j =
     let h : 1 ≤ count k ms = ltb-true 0 (count k ms) (and-left (ltb 0 (count k ms)) (inList (remove k ms) ks) t) in
     omega (arith, order-sound (remove k ms) ks (and-right (ltb 0 (count k ms)) (inList (remove k ms) ks) t) j, count-remove k ms h j)
-
-both : (a b : Bool) → a ≡ true → b ≡ true → (a && b) ≡ true
-both true b e f = f
-both false b e f = e
 
 order-complete : (ms ks : List ℕ) → ((j : ℕ) → count j ks ≡ count j ms) → inList ms ks ≡ true
 unfolding inList isNil count

@@ -22,22 +22,11 @@ use Rattle.model.specs.Network.{Proc, box, input, output, Box, Net, Stat
 use Rattle.model.specs.NetworkFile.{hit, count, ports}
 use Rattle.model.specs.Cycles.{Move, Deed, Mark, quiet, fires, faulty, moves, look, seen, reads, writes, matches, oldest, empty, full, readyIn, readyIns, readyOuts, readyVars, readyRule, result, deed, deedOf, envOf, ruleOf, readsOf, sentOf, faultless, actionsOf, chosen, attempt, guarded, tryRule, orElse, first, tried, flag, markOf, mark}
 use Rattle.model.specs.Orders.{joined, onWire}
+use Rattle.model.proofs.Tests.{and-left, and-right, not-true}
 use Rattle.model.proofs.Wires.{length-joined, moves-count, port-one}
 use Rattle.model.proofs.Order.{OneEach, Ready, nobody-reads, nobody-writes}
 
 -- ── tests ────────────────────────────────────────────────────────────────────────────────────
-
-pub and-left : (a b : Bool) → (a && b) ≡ true → a ≡ true
-and-left true b e = refl
-and-left false b e = e
-
-pub and-right : (a b : Bool) → (a && b) ≡ true → b ≡ true
-and-right true b e = e
-and-right false b e = let z : _≡_ {A = ℕ} 0 1 = cc in absurd (omega arith)
-
-pub not-true : (a : Bool) → not a ≡ true → a ≡ false
-not-true true e = sym e
-not-true false e = refl
 
 pub not-and : (a b : Bool) → not (a && b) ≡ true → a ≡ true → b ≡ false
 not-and true b e h = not-true b e

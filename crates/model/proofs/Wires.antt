@@ -88,7 +88,7 @@ moves-count (v ∷ ws) [] w = omega arith
 moves-count (v ∷ ws) (none ∷ ts) w = omega (arith, moves-count ws ts w)
 moves-count (v ∷ ws) (some t ∷ ts) w = omega (arith, moves-count ws ts w, length-joined (eqb v w) t (onWire w (moves ws ts)))
 
-count-append : (w : ℕ) (xs ys : List ℕ) → count w (xs ++ ys) ≡ count w xs + count w ys
+pub count-append : (w : ℕ) (xs ys : List ℕ) → count w (xs ++ ys) ≡ count w xs + count w ys
 unfolding count
 count-append w [] ys = omega arith
 count-append w (x ∷ xs) ys = omega (arith, count-append w xs ys)

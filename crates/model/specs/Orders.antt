@@ -9,7 +9,8 @@ use lib.Dec.{eqb}
 use lib.ListN.{length}
 use Rattle.model.specs.declared.Token.{Token}
 use Rattle.model.specs.Network.{Net, State, capacity, queue, loaded}
-use Rattle.model.specs.NetworkFile.{count}
+use Rattle.model.specs.NetworkFile.{count, good}
+use Rattle.model.specs.Calls.{withTokens}
 use Rattle.model.specs.States.{bytesOf}
 use Rattle.model.specs.Cycles.{Move, Deed, Mark, deed, mark, fire, fireAll, cycleIn, markedOf, finding, broken}
 
@@ -70,3 +71,7 @@ pub record AnyOrder (n : Net) : Type 0 where
   pub same-state : {s : State} {ds : List Deed} → Reached n s ds → (ks ls : List ℕ) → Order n s ks → Order n s ls → cycleIn n ks s ≡ cycleIn n ls s
   pub same-bytes : {s : State} {ds : List Deed} → Reached n s ds → (ks ls : List ℕ) → Order n s ks → Order n s ls → bytesOf n (cycleIn n ks s) ≡ bytesOf n (cycleIn n ls s)
   pub each-firing : {s : State} {ds : List Deed} → Reached n s ds → (done : List ℕ) (k : ℕ) (rest : List ℕ) → Order n s (done ++ k ∷ rest) → Firing n s ds done k
+
+-- demand 3: of every accepted network with an accepted token file
+unfoldable pub Demand3 : Type 0
+Demand3 = (s ts : List ℕ) (n : Net) → withTokens s ts ≡ good n → AnyOrder n
