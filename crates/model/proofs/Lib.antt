@@ -1,6 +1,8 @@
 -- Theorems about the definitions.
 pub mod Workbook
 pub mod Tests
+pub mod Wrapping
+pub mod Typing
 pub mod Wires
 pub mod Order
 pub mod Readiness

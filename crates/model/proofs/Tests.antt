@@ -1,6 +1,7 @@
 -- Several tests that hold together, each by itself.
 -- Assumes nothing.
 use mathlib.Core.Path.{_≡_, refl}
+use mathlib.Core.Logic.{_⊎_, inl, inr}
 use mathlib.Core.Bool.{Bool, true, false, not, _&&_, _||_}
 use Prim.Native.Nat.{ℕ}
 use native.Mathlib.Omega.{arith}
@@ -32,3 +33,7 @@ and₅ a b c d f e = let h = and₄ a b c d (and-left (a && b && c && d) f e) in
 pub not-true : (a : Bool) → not a ≡ true → a ≡ false
 not-true true e = let z : _≡_ {A = ℕ} 0 1 = cc in absurd (omega arith)
 not-true false e = refl
+
+pub or-true : (a b : Bool) → (a || b) ≡ true → (a ≡ true) ⊎ (b ≡ true)
+or-true true b e = inl refl
+or-true false b e = inr e
