@@ -1,7 +1,7 @@
 -- What the network that an accepted file describes is like.
 -- Assumes nothing.
 use mathlib.Core.Path.{_≡_, refl, sym, ap, ap₂, _∙_, subst}
-use mathlib.Core.Bool.{Bool, true, false, cond, _&&_, _||_}
+use mathlib.Core.Bool.{Bool, true, false, not, cond, _&&_, _||_}
 use mathlib.Core.List.{List, [], _∷_, _++_, map}
 use Prim.Native.Nat.{ℕ, zero, suc, _+_, _-_, _*_, _≤_, _<_}
 use native.Mathlib.Omega.{arith}
@@ -10,17 +10,17 @@ use lib.Dec.{eqb, leb, ltb}
 use lib.IntN.{pos}
 use lib.ListN.{length, getD, take, drop, length-append, length-take, length-drop, length-map, List·getD-append, List·getD-map}
 use lib.Seq.{getD-append-add, getD-take, getD-drop, length-take-le}
-use borrow.Author.Tests.{eqb-true, leb-true, ltb-true, ltb-false, le-leb}
+use borrow.Author.Tests.{eqb-true, eqb-false, leb-true, ltb-true, ltb-false, le-leb}
 use Rattle.model.specs.declared.Ty.{Ty}
 use Rattle.model.specs.declared.Token.{Token}
 use Rattle.model.specs.Bytes.{twoAt, valueAt, stretch}
 use Rattle.model.specs.Values.{noType, isPlain, wellSized, inPrecision, within}
-use Rattle.model.specs.Expressions.{Read, bad, got, after, readMany, typeAt, expression, expressionLimits, Exp}
-use Rattle.model.specs.Rules.{Rule, noRule, Pattern, Action, Shape, Fit, fits, fails, isFit, ruleFits, ruleRead, isWhole, readRule, readPattern, readAction, inputCode, variableCode, outputAction, variableAction, actionLimits}
+use Rattle.model.specs.Expressions.{Read, bad, got, after, readMany, provided, typeAt, expression, expressionLimits, Exp}
+use Rattle.model.specs.Rules.{Rule, noRule, Pattern, Action, nothing, bare, send, bareAction, sentTag, holdsExpression, Shape, Fit, fits, fails, isFit, ruleFits, ruleRead, isWhole, readRule, readPattern, readAction, inputCode, variableCode, outputAction, variableAction, actionLimits}
 use Rattle.model.specs.Network.{Wire, Variable, Box, Proc, box, input, output, Net, wire, proc, rule, nobody, noWire, insOf, outsOf, shapeOf, wireTypes, variableTypes}
 use Rattle.model.specs.NetworkFile.{Index, every, tabulate, wireForm, wireLimits, wireTypeFits, boxForm, boxLimits, boxTypes, variableStart, variableFits, variableOf, ruleIn, ruleForm, ruleLimits, ruleTypes, inputForm, outputForm, outputLimits, bodyAt, wireOf, boxOf, wiresOf, shapeAt, rulesEnd, ruleAt, rulesOf, boxAt, inputAt, outputAt, netOf}
 use Rattle.model.specs.States.{tokensFit}
-use Rattle.model.proofs.Tests.{and-left, and-right, and₂, and₃, and₄, and₅}
+use Rattle.model.proofs.Tests.{and-left, and-right, and₂, and₃, and₄, and₅, not-true}
 use Rattle.model.proofs.Accepted.{Passes, InFile, WireField, BoxField, RuleField, InputField, OutputField, Valid}
 
 -- ── lists ────────────────────────────────────────────────────────────────────────────────────
@@ -129,6 +129,12 @@ wire-good s seen at f =
 
 -- ── rules ────────────────────────────────────────────────────────────────────────────────────
 
+-- an expression is sent plain or as data, a bare mark is '< or '>
+unfoldable pub actionTag : Action → Bool
+actionTag nothing = true
+actionTag (bare t) = eqb t 1 || eqb t 2
+actionTag (send t e) = eqb t 0 || eqb t 3
+
 -- a rule has a part for each port and variable of its box, keeps the limits, and all fits
 pub record GoodRule (sh : Shape) (r : Rule) : Type 0 where
   pub ins : length (r .ins) ≡ length (sh .ins)
@@ -139,6 +145,7 @@ pub record GoodRule (sh : Shape) (r : Rule) : Type 0 where
   pub outs-limits : actionLimits (r .outs) ≡ true
   pub sets-limits : actionLimits (r .sets) ≡ true
   pub fits : ruleFits sh r ≡ fits
+  pub tags : Each (λ a. actionTag a ≡ true) nothing (r .outs)
 
 -- what was read before what follows
 record Before {A B : Type 0} (m : Read A) (f : A → ℕ → Read B) (c : B) (k : ℕ) : Type 0 where
@@ -164,12 +171,71 @@ readMany-length f (suc k) s xs n e =
     let q : one .first ∷ many .first ≡ xs = got-same (many .rest) in
     rw (← q) (ap suc (readMany-length f k (drop (one .size) s) (many .first) (many .size) (many .read)))
 
+-- what holds of each thing that is read holds of all
+readMany-each : {A : Type 0} (P : A → Type 0) (d : A) (f : List ℕ → Read A) → ((s : List ℕ) (a : A) (n : ℕ) → f s ≡ got a n → P a)
+    → (k : ℕ) (s : List ℕ) (xs : List A) (n : ℕ) → readMany f k s ≡ got xs n → Each P d xs
+unfolding readMany
+readMany-each P d f h zero s xs n e = let q : [] ≡ xs = got-same e in rw (← q) (λ i l. absurd (omega (arith, l)))
+readMany-each P d f h (suc k) s xs n e =
+    let one = after-got (f s) _ xs n e in
+    let many = after-got (readMany f k (drop (one .size) s)) _ xs n (one .rest) in
+    let q : one .first ∷ many .first ≡ xs = got-same (many .rest) in
+    let p = h s (one .first) (one .size) (one .read) in
+    let r = readMany-each P d f h k (drop (one .size) s) (many .first) (many .size) (many .read) in
+    rw (← q) (each-append P d (one .first ∷ []) (many .first) (λ i l. (let z : i ≡ 0 = omega (arith, l) in rw z p)) r)
+
+provided-got : {A : Type 0} (b : Bool) (x : Read A) (a : A) (n : ℕ) → provided b x ≡ got a n → (b ≡ true) × (x ≡ got a n)
+unfolding provided
+provided-got true x a n e = (refl, e)
+provided-got false x a n e = let z : _≡_ {A = ℕ} 0 1 = cc in absurd (omega arith)
+
+sent-tag : (c : ℕ) → (eqb (sentTag c) 0 || eqb (sentTag c) 3) ≡ true
+unfolding sentTag
+sent-tag c = by-code (eqb c 5)
+  where
+    by-code : (b : Bool) → (eqb (cond b 3 0) 0 || eqb (cond b 3 0) 3) ≡ true
+    by-code true = refl
+    by-code false = refl
+
+bare-tag : (c : ℕ) → c ≤ 5 → eqb c 2 ≡ false → eqb c 1 ≡ false → eqb c 5 ≡ false → actionTag (bareAction c) ≡ true
+unfolding bareAction actionTag
+bare-tag c h e₂ e₁ e₅ = by-code (eqb c 0) refl
+  where
+    by-code : (b : Bool) → eqb c 0 ≡ b → actionTag (cond b nothing (bare (c - 2))) ≡ true
+    by-code true e = refl
+    by-code false e = by-three (decLt c 4)
+      where
+        by-three : Dec (c < 4) → (eqb (c - 2) 1 || eqb (c - 2) 2) ≡ true
+        by-three (yes l) = let q : c ≡ 3 = omega (arith, l, eqb-false c 0 e, eqb-false c 1 e₁, eqb-false c 2 e₂) in rw q
+        by-three (no l) = let q : c ≡ 4 = omega (arith, l, h, eqb-false c 5 e₅) in rw q
+
+sent-action : (s : List ℕ) (a : Action) (n : ℕ) → after (expression (drop 1 s)) (λ x m. got (send (sentTag (getD s 0 0)) x) (1 + m)) ≡ got a n → actionTag a ≡ true
+sent-action s a n e =
+    let x = after-got (expression (drop 1 s)) _ a n e in
+    let q : send (sentTag (getD s 0 0)) (x .first) ≡ a = got-same (x .rest) in
+    rw (← q) (unfold actionTag in sent-tag (getD s 0 0))
+
+read-tag : (s : List ℕ) (a : Action) (n : ℕ) → readAction outputAction s ≡ got a n → actionTag a ≡ true
+unfolding readAction outputAction holdsExpression
+read-tag s a n e =
+    let c = getD s 0 0 in
+    let p = provided-got (ltb 0 (length s) && (leb c 5 && not (eqb c 2))) _ a n e in
+    let known = and₂ (leb c 5) (not (eqb c 2)) (and-right (ltb 0 (length s)) (leb c 5 && not (eqb c 2)) (p .0)) in
+    by-code (eqb c 1) (eqb c 5) refl refl (leb-true c 5 (known .0)) (not-true (eqb c 2) (known .1)) (p .1)
+  where
+    by-code : (b₁ b₅ : Bool) → eqb (getD s 0 0) 1 ≡ b₁ → eqb (getD s 0 0) 5 ≡ b₅ → getD s 0 0 ≤ 5 → eqb (getD s 0 0) 2 ≡ false
+        → cond (b₁ || b₅) (after (expression (drop 1 s)) (λ x m. got (send (sentTag (getD s 0 0)) x) (1 + m))) (got (bareAction (getD s 0 0)) 1) ≡ got a n → actionTag a ≡ true
+    by-code true b₅ e₁ e₅ h e₂ r = sent-action s a n r
+    by-code false true e₁ e₅ h e₂ r = sent-action s a n r
+    by-code false false e₁ e₅ h e₂ r = let q : bareAction (getD s 0 0) ≡ a = got-same r in rw (← q) (bare-tag (getD s 0 0) h e₂ e₁ e₅)
+
 -- the parts of a rule that was read
 record Parts (i o v : ℕ) (r : Rule) : Type 0 where
   ins : length (r .ins) ≡ i
   vars : length (r .vars) ≡ v
   outs : length (r .outs) ≡ o
   sets : length (r .sets) ≡ v
+  tags : Each (λ a. actionTag a ≡ true) nothing (r .outs)
 
 rule-parts : (i o v : ℕ) (b : List ℕ) (r : Rule) (n : ℕ) → readRule i o v b ≡ got r n → Parts i o v r
 unfolding readRule
@@ -185,6 +251,7 @@ rule-parts i o v b r n e =
       vars = readMany-length _ v _ (p₂ .first) (p₂ .size) (p₂ .read);
       outs = readMany-length _ o _ (p₄ .first) (p₄ .size) (p₄ .read);
       sets = readMany-length _ v _ (p₅ .first) (p₅ .size) (p₅ .read);
+      tags = readMany-each (λ a. actionTag a ≡ true) nothing (readAction outputAction) read-tag o _ (p₄ .first) (p₄ .size) (p₄ .read);
     })
 
 whole-parts : (i o v : ℕ) (b : List ℕ) (x : Read Rule) → readRule i o v b ≡ x → isWhole x b ≡ true → Parts i o v (ruleRead x)
@@ -214,6 +281,7 @@ rule-good s sh at f =
       outs-limits = limits .3;
       sets-limits = limits .4;
       fits = all-fits (ruleFits sh r) (f .passes .types);
+      tags = parts .tags;
     }
 
 -- ── boxes ────────────────────────────────────────────────────────────────────────────────────

@@ -12,3 +12,4 @@ pub mod Accepted
 pub mod Decoded
 pub mod Whole
 pub mod AnyOrder
+pub mod Kept

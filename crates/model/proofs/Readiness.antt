@@ -24,7 +24,7 @@ use Rattle.model.specs.Cycles.{Move, Deed, Mark, quiet, fires, faulty, m
 use Rattle.model.specs.Orders.{joined, onWire}
 use Rattle.model.proofs.Tests.{and-left, and-right, not-true}
 use Rattle.model.proofs.Wires.{length-joined, moves-count, port-one}
-use Rattle.model.proofs.Order.{OneEach, Ready, nobody-reads, nobody-writes}
+use Rattle.model.proofs.Order.{OneEach, Ready, nobody-reads, nobody-writes, hit-same}
 
 -- ── tests ────────────────────────────────────────────────────────────────────────────────────
 
@@ -123,7 +123,15 @@ guarded-fires en u k (Value t z) r e =
     cc
 guarded-fires en u k (Fault x) r e = let z : _≡_ {A = ℕ} 0 1 = cc in absurd (omega arith)
 
-try-fires : (n : Net) (s : State) (b : Box) (vs : List ℤ) (k r : ℕ) → tryRule n s b vs k ≡ fires r → readyRule n s b (rule b r) vs ≡ true
+-- a rule that fires is the one that was tried
+pub try-is : (n : Net) (s : State) (b : Box) (vs : List ℤ) (k r : ℕ) → tryRule n s b vs k ≡ fires r → k ≡ r
+unfolding tryRule
+try-is n s b vs k r e =
+    let u = rule b k in
+    let en = envOf n b u (look s (b .ins) (map reads (u .ins))) vs in
+    guarded-fires en u k (valueOf en (u .guard)) r ((attempt-fires (readyRule n s b u vs) (guarded en u k (valueOf en (u .guard))) r e) .1)
+
+pub try-fires : (n : Net) (s : State) (b : Box) (vs : List ℤ) (k r : ℕ) → tryRule n s b vs k ≡ fires r → readyRule n s b (rule b r) vs ≡ true
 unfolding tryRule
 try-fires n s b vs k r e =
     let u = rule b k in
@@ -131,18 +139,18 @@ try-fires n s b vs k r e =
     let h = attempt-fires (readyRule n s b u vs) (guarded en u k (valueOf en (u .guard))) r e in
     subst (λ (x : ℕ). readyRule n s b (rule b x) vs ≡ true) (guarded-fires en u k (valueOf en (u .guard)) r (h .1)) (h .0)
 
--- in whatever order the rules are tried
-first-fires : (P : ℕ → Type 0) (f : ℕ → Mark) (ks : List ℕ) (r : ℕ) → ((k : ℕ) → f k ≡ fires r → P r) → first f ks ≡ fires r → P r
-unfolding first orElse
-first-fires P f [] r h e = let z : _≡_ {A = ℕ} 0 1 = cc in absurd (omega arith)
-first-fires P f (k ∷ ks) r h e = go (f k) refl e (first-fires P f ks r h)
+-- one of those tried fires, in whatever order they are
+pub first-in : (f : ℕ → Mark) (ks : List ℕ) (r : ℕ) → first f ks ≡ fires r → (k : ℕ) × (1 ≤ count k ks) × (f k ≡ fires r)
+unfolding first orElse count
+first-in f [] r e = let z : _≡_ {A = ℕ} 0 1 = cc in absurd (omega arith)
+first-in f (k ∷ ks) r e = go (f k) refl e (first-in f ks r)
   where
-    go : (x : Mark) → f k ≡ x → orElse x (first f ks) ≡ fires r → (first f ks ≡ fires r → P r) → P r
-    go quiet q g ih = ih g
-    go (fires y) q g ih = h k (q ∙ g)
+    go : (x : Mark) → f k ≡ x → orElse x (first f ks) ≡ fires r → (first f ks ≡ fires r → (j : ℕ) × (1 ≤ count j ks) × (f j ≡ fires r)) → (j : ℕ) × (1 ≤ hit (eqb k j) + count j ks) × (f j ≡ fires r)
+    go quiet q g ih = let i = ih g in (i .0, omega (arith, i .1), i .2)
+    go (fires y) q g ih = (k, omega (arith, hit-same k k refl), q ∙ g)
     go (faulty y) q g ih = let z : _≡_ {A = ℕ} 0 1 = cc in absurd (omega arith)
 
-flag-fires : (b : Bool) (r : ℕ) → flag b ≡ fires r → b ≡ true
+pub flag-fires : (b : Bool) (r : ℕ) → flag b ≡ fires r → b ≡ true
 unfolding flag
 flag-fires true r e = refl
 flag-fires false r e = let z : _≡_ {A = ℕ} 0 1 = cc in absurd (omega arith)
@@ -186,8 +194,7 @@ output-ready n s v c r o e = record {
 
 mark-ready : (n : Net) (s : State) (p : Proc) (r : ℕ) (o : Own) → markOf n s p o ≡ fires r → ReadyOf n s p r o
 unfolding markOf
-mark-ready n s (box b) r o e =
-    rule-ready n s b r o (first-fires (λ (x : ℕ). readyRule n s b (rule b x) (varsOf o) ≡ true) (tryRule n s b (varsOf o)) (tried b o) r (λ k. try-fires n s b (varsOf o) k r) e)
+mark-ready n s (box b) r o e = let f = first-in (tryRule n s b (varsOf o)) (tried b o) r e in rule-ready n s b r o (try-fires n s b (varsOf o) (f .0) r (f .2))
 mark-ready n s (input v ts) r o e =
     let b = ltb (takenOf o) (length ts) in
     input-ready n s v ts r o (not-true (full n s v) (and-right b (not (full n s v)) (flag-fires (b && not (full n s v)) r e)))

@@ -94,7 +94,7 @@ module _ (n : Net) (m : ℕ → Mark) (one : OneEach n) where
           let p : onWire w ((deed n m k s) .put) ≡ [] = empty-list _ (omega (arith, r .room w, no-capacity n w (omega (arith, f, sh)))) in
           queue-past (act k (deed n m k s) s) w (rw length-act (omega (arith, f))) ∙ sym (rw (t, p, past))
 
-  sound-next : (k : ℕ) (s : State) (ds : List Deed) → Ready n m k s → Sound n s ds → Sound n (fire n m k s) (ds ++ (deed n m k s ∷ []))
+  pub sound-next : (k : ℕ) (s : State) (ds : List Deed) → Ready n m k s → Sound n s ds → Sound n (fire n m k s) (ds ++ (deed n m k s ∷ []))
   sound-next k s ds r q = record {
     shape = unfold fire in length-act k (deed n m k s) s ∙ q .shape;
     fits = λ w. omega (arith, changed n m one k s r w, r .room w);
@@ -157,7 +157,7 @@ upFrom-once i (suc c) j = go (eqb i j) refl (upFrom-once (suc i) c j)
     go true e ih = let q : i ≡ j = eqb-true i j e in omega (arith, hit-same i j q, upFrom-below (suc i) c j (omega arith))
     go false e ih = omega (arith, hit-other i j (eqb-false i j e))
 
-fires-of : (x : Mark) → marked x ≡ true → (r : ℕ) × (x ≡ fires r)
+pub fires-of : (x : Mark) → marked x ≡ true → (r : ℕ) × (x ≡ fires r)
 unfolding marked
 fires-of quiet e = let z : _≡_ {A = ℕ} 0 1 = cc in absurd (omega arith)
 fires-of (fires r) e = (r, refl)
@@ -171,11 +171,11 @@ empty-queues [] w = refl
 empty-queues (x ∷ ws) zero = refl
 empty-queues (x ∷ ws) (suc w) = empty-queues ws w
 
-load-empty : (n : Net) (w : ℕ) → queue (loaded n) w ≡ []
+pub load-empty : (n : Net) (w : ℕ) → queue (loaded n) w ≡ []
 unfolding queue loaded
 load-empty n w = empty-queues (n .wires) w
 
-load-sound : (n : Net) → Sound n (loaded n) []
+pub load-sound : (n : Net) → Sound n (loaded n) []
 load-sound n = record {
   shape = unfold loaded in length-map (n .wires) noTokens;
   fits = λ w. omega (arith, ap length (load-empty n w));
@@ -200,7 +200,7 @@ deed-midway n m one (j ∷ done) k rest s d =
 -- ── demand 3 ─────────────────────────────────────────────────────────────────────────────────
 
 module _ (n : Net) (one : OneEach n) where
-  order-due : (s : State) (ds : List Deed) (ks : List ℕ) → Sound n s ds → Order n s ks → Due n (mark n s) one ks s
+  pub order-due : (s : State) (ds : List Deed) (ks : List ℕ) → Sound n s ds → Order n s ks → Due n (mark n s) one ks s
   unfolding markedOf processes
   order-due s ds ks q o = record {
     once = λ k. omega (arith, o .names k, marked-le (mark n s) (processes n) k, upFrom-once 0 (length (n .procs)) k);
