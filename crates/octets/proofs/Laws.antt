@@ -1,15 +1,15 @@
 -- Laws of bytes and the numbers that they hold: what is written is read back, and what is read is what was written.
 -- Assumes nothing.
-use Prim.Native.Nat.{ℕ, zero, suc, _+_, _-_, _*_, _/_, _%_, _^_, _≤_, _<_}
+use Prim.Native.Nat.{ℕ, zero, suc, _+_, _-_, _*_, _/_, _%_, _≤_, _<_}
 use mathlib.Core.Path.{_≡_, refl, sym, ap, _∙_}
 use mathlib.Core.Bool.{Bool, true, false}
 use mathlib.Core.List.{List, [], _∷_, _++_}
 use native.Mathlib.Omega.{arith}
-use native.Mathlib.Nat.{not-suc-le-zero, mod-eq-of-lt, add-sub-cancel-left}
+use native.Mathlib.Nat.{mod-eq-of-lt, add-sub-cancel-left}
 use lib.Dec.{T, ltb}
 use lib.IntN.{ℤ, pos, negsuc, natAbs, _+ℤ_, _-ℤ_}
 use lib.Signed.{mag, ltZ, nonNeg}
-use lib.ListN.{length, getD, take, drop, set, length-append, List·getD-eq-default}
+use lib.ListN.{length, getD, take, drop, set, List·getD-eq-default}
 use lib.Seq.{getD-drop}
 use mir.Syntax.{w64}
 use mir.Val.{SFits, Fits, toZ, ofZ}

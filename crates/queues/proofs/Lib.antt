@@ -1,0 +1,3 @@
+-- Laws of queues and of segments.
+pub mod Segments
+pub mod Stores

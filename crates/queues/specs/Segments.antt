@@ -1,0 +1,17 @@
+-- A part of some bytes, and the bytes with another part in its place.
+-- Assumes nothing.
+use Prim.Native.Nat.{ℕ, _+_}
+use mathlib.Core.List.{List, _++_}
+use lib.ListN.{take, drop}
+use Rattle.model.specs.States.{sum}
+
+-- the k bytes from a on, and the bytes with ys in their place
+abbrev pub mid : ℕ → ℕ → List ℕ → List ℕ
+mid a k s = take k (drop a s)
+
+abbrev pub putMid : ℕ → ℕ → List ℕ → List ℕ → List ℕ
+putMid a k s ys = take a s ++ (ys ++ drop k (drop a s))
+
+-- where segment i of segments of these sizes begins
+unfoldable pub startOf : List ℕ → ℕ → ℕ
+startOf sizes i = sum (take i sizes)
