@@ -19,6 +19,10 @@ part-put s ys last a m k e f =
     let g : last ≡ ys = f ∙ ap (λ (l : List ℕ). ys ++ l) (drop-of-length-le (take m (drop a s)) h) ∙ append-nil ys in
     ap₂ (λ (l : List ℕ) (n : ℕ). putMid a n s l) g e
 
+-- a part that lies behind h
+pub put-after : (h s ys : List ℕ) (n a k : ℕ) → length h ≡ n → putMid (n + a) k (h ++ s) ys ≡ h ++ putMid a k s ys
+put-after h s ys n a k e = rw (← e, take-append-add h s a, drop-append-add h s a) (append-assoc h (take a s) (ys ++ drop k (drop a s)))
+
 -- ── segments ─────────────────────────────────────────────────────────────────────────────────
 
 abbrev pub lengths : List (List ℕ) → List ℕ
@@ -45,12 +49,21 @@ segment-put (x ∷ xs) rest (suc i) ys h =
     rw (append-assoc, take-append-add, drop-append-add, append-assoc)
     (ap (λ (l : List ℕ). x ++ l) (segment-put xs rest i ys (le-of-suc-le-suc h)) ∙ sym (append-assoc x (cat (set xs i ys)) rest))
 
+-- the same, where its place, what it is and its length are told otherwise
+pub read-at : (xs : List (List ℕ)) (rest x : List ℕ) (i a k : ℕ) → i < length xs → startOf (lengths xs) i ≡ a → getD xs i [] ≡ x → length x ≡ k → mid a k (cat xs ++ rest) ≡ x
+read-at xs rest x i a k h p e l =
+    ap₂ (λ (b m : ℕ). mid b m (cat xs ++ rest)) (sym p) (sym l ∙ sym (ap (λ (y : List ℕ). length y) e)) ∙ segment-read xs rest i h ∙ e
+
+pub put-at : (xs ys : List (List ℕ)) (rest x y : List ℕ) (i a k : ℕ) → i < length xs → startOf (lengths xs) i ≡ a → getD xs i [] ≡ x → length x ≡ k → set xs i y ≡ ys → putMid a k (cat xs ++ rest) y ≡ cat ys ++ rest
+put-at xs ys rest x y i a k h p e l f =
+    ap₂ (λ (b m : ℕ). putMid b m (cat xs ++ rest) y) (sym p) (sym l ∙ sym (ap (λ (z : List ℕ). length z) e)) ∙ segment-put xs rest i y h ∙ ap (λ (zs : List (List ℕ)). cat zs ++ rest) f
+
 -- it ends within the whole
-pub segment-in : (xs : List (List ℕ)) (i : ℕ) → i < length xs → startOf (lengths xs) i + length (getD xs i []) ≤ length (cat xs)
-unfolding cat sum startOf
-segment-in [] i h = absurd (not-suc-le-zero h)
-segment-in (x ∷ xs) zero h = simp length-append (omega arith)
-segment-in (x ∷ xs) (suc i) h = simp length-append (omega (arith, segment-in xs i (le-of-suc-le-suc h)))
+pub start-in : (sizes : List ℕ) (i : ℕ) → i < length sizes → startOf sizes i + getD sizes i 0 ≤ sum sizes
+unfolding sum startOf
+start-in [] i h = absurd (not-suc-le-zero h)
+start-in (k ∷ ks) zero h = omega arith
+start-in (k ∷ ks) (suc i) h = omega (arith, start-in ks i (le-of-suc-le-suc h))
 
 -- ── groups of segments: the wires, then the processes ────────────────────────────────────────
 

@@ -7,7 +7,7 @@ use native.Mathlib.Omega.{arith}
 use native.Mathlib.Nat.{not-suc-le-zero, le-of-suc-le-suc, add-sub-cancel-left}
 use native.Mathlib.Numerals.{add-one}
 use lib.ListN.{length, getD, take, drop, set, replicate, length-append, length-drop, length-replicate, drop-of-length-le}
-use lib.Seq.{take-all, length-take-le, getD-drop, getD-append-add}
+use lib.Seq.{drop-length, take-all, length-take-le, getD-drop, getD-append-add}
 use lib.IntN.{ℤ, pos}
 use Rattle.model.specs.declared.Token.{Token}
 use Rattle.model.specs.Bytes.{twoAt, fourAt, valueAt, signedOf, twoBytes, valueBytes}
@@ -104,3 +104,9 @@ turn t s r i b h k e f = rw add-one (ap₂ (λ (l : List ℕ) (x : ℕ). set l i
 -- all turns done
 pub all-turns : (t s r : List ℕ) (i : ℕ) → length t ≡ length s → length s ≤ i → r ≡ take i t ++ drop i s → r ≡ t
 all-turns t s r i e h f = f ∙ ap (λ (l : List ℕ). take i t ++ l) (drop-of-length-le s h) ∙ append-nil (take i t) ∙ take-all i t (omega arith)
+
+-- ── zeros ────────────────────────────────────────────────────────────────────────────────────
+
+pub filled : (s s₀ : List ℕ) (i : ℕ) → s ≡ replicate i 0 ++ drop i s₀ → i ≡ length s₀ → s ≡ replicate (length s₀) 0
+filled s s₀ i e h =
+    e ∙ ap (λ (n : ℕ). replicate n 0 ++ drop n s₀) h ∙ ap (λ (l : List ℕ). replicate (length s₀) 0 ++ l) (drop-length s₀) ∙ append-nil (replicate (length s₀) 0)

@@ -1,18 +1,12 @@
 -- What is done to the bytes of one wire and of one process.
 -- Assumes nothing.
-use Prim.Native.Nat.{ℕ, suc, _+_, _-_, _*_, _^_, _≤_, _<_}
-use mathlib.Core.List.{List, [], _∷_, _++_}
-use lib.ListN.{length, getD, take, drop, set, replicate}
-use lib.Signed.{mag}
+use Prim.Native.Nat.{ℕ, _+_, _-_, _*_, _≤_, _<_}
+use mathlib.Core.List.{List, _++_}
+use lib.ListN.{length, getD, drop, set, replicate}
 use Rattle.model.specs.declared.Token.{Token}
-use Rattle.model.specs.Bytes.{twoAt, twoBytes, valueBytes}
+use Rattle.model.specs.Bytes.{twoAt, twoBytes}
 use Rattle.model.specs.States.{tokenBytes}
 use Rattle.queues.specs.Segments.{mid, putMid}
-
--- a token that its five bytes hold
-pub record Sane (t : Token) : Type 0 where
-  pub tag : t .tag ≤ 3
-  pub value : mag (t .value) < 2 ^ 31
 
 -- a wire's bytes have room for one token more
 pub record WireRoom (s : List ℕ) : Type 0 where

@@ -3,12 +3,12 @@ use model::Token;
 ghost use mathlib.Core.Path.{_≡_};
 ghost use mathlib.Core.List.{_++_};
 ghost use Prim.Native.Nat.{_+_, _*_, _≤_, _<_, _^_};
-ghost use lib.ListN.{length, drop, getD};
+ghost use lib.ListN.{length, getD, drop, replicate};
 ghost use lib.Signed.{mag};
 ghost use Rattle.model.specs.Bytes.{valueAt, valueBytes};
 ghost use Rattle.model.specs.States.{tokenAt, tokenBytes};
 ghost use Rattle.queues.specs.Segments.{putMid};
-ghost use Rattle.queues.specs.Queues.{Sane, WireRoom, WireHeld, GotRoom, pushBytes, popBytes, gotBytes, moved};
+ghost use Rattle.queues.specs.Queues.{WireRoom, WireHeld, GotRoom, pushBytes, popBytes, gotBytes, moved};
 
 // The token whose five bytes stand at an offset.
 pub fn token_at(s: &[u8], at: usize) -> Token
@@ -20,6 +20,13 @@ pub fn token_at(s: &[u8], at: usize) -> Token
     let tag = octets::byte_at(s, at);
     let value = octets::value_at(s, at + 1);
     Token { tag, value }
+}
+
+// How many tokens are on a wire. (An output's count and an input's are two bytes: octets::two_at and octets::put_two.)
+pub fn count(s: &[u8]) -> usize
+    ensures { λ r. ⌜ (r ≡ getD (now (s .entry)) 0 0) × (r < 256) ⌝ }
+{
+    octets::wide(octets::byte_at(s, 0))
 }
 
 // The oldest token of a wire.
@@ -102,4 +109,15 @@ pub fn put_var(s: &mut [u8], j: usize, z: i64)
     let start = 4 * j;
     let end = start + 4;
     octets::put_value(&mut s[start..end], z);
+}
+
+// Nothing but zeros: a wire or an output that is empty.
+pub fn clear(s: &mut [u8])
+    ensures { λ _. ⌜ now (s .exit) ≡ replicate (length (now (s .entry))) 0 ⌝ }
+{
+    let mut i = 0;
+    while i < s.len() {
+        s[i] = 0;
+        i += 1;
+    }
 }
