@@ -1,20 +1,21 @@
 -- Reading back: the layout of a queue gives the queue, and bytes that fit are the layout of the one queue that they hold.
 -- Assumes nothing.
-use Prim.Native.Nat.{ℕ, zero, suc, _+_, _-_, _*_, _≤_, _<_}
+use Prim.Native.Nat.{ℕ, zero, suc, _+_, _-_, _*_, _^_, _≤_, _<_}
 use mathlib.Core.Path.{_≡_, refl, sym, ap, ap₂, _∙_}
 use mathlib.Core.Bool.{Bool, true, false, _&&_, _||_, cond}
 use mathlib.Core.List.{List, [], _∷_, _++_, append-assoc, append-nil}
 use native.Mathlib.Omega.{arith}
 use lib.Dec.{leb, eqb}
-use lib.IntN.{ℤ, pos}
-use lib.Signed.{mag}
+use lib.IntN.{ℤ, pos, negsuc, negℤ}
+use lib.Pow.{pow-mono}
+use lib.Signed.{mag, leZ}
 use lib.ListN.{length, getD, take, drop, replicate, length-drop, take-append-drop}
 use lib.Seq.{drop-at, take-all, take-add, getD-drop}
 use borrow.Author.Tests.{leb-true, eqb-true}
 use Rattle.model.specs.declared.Ty.{Ty}
 use Rattle.model.specs.declared.Token.{Token}
 use Rattle.model.specs.Bytes.{twoAt, twoBytes, valueAt, valueBytes}
-use Rattle.model.specs.Values.{within, carried, eqZ}
+use Rattle.model.specs.Values.{isDc, least, greatest, within, carried, eqZ}
 use Rattle.model.specs.Rules.{tagFits}
 use Rattle.model.specs.Network.{Wire, Variable, Proc, box, input, output, Net, Own, vars, taken, got, wire, varsOf, takenOf, gotOf}
 use Rattle.model.specs.States.{tokenAt, readTokens, tokenBytes, tokensBytes, tokenFits, tokensFit, roomBytes, wireBytes, valuesBytes, ownBytes, wireSize, ownSize, allZero, roomFits, wireFits, queueIn, valuesIn, ownFits, ownIn}
@@ -30,6 +31,9 @@ and-left false b e = e
 pub and-right : (a b : Bool) → (a && b) ≡ true → b ≡ true
 and-right true b e = e
 and-right false b e = let f : true ≡ false = sym e in cc
+
+clash : false ≡ true → ⊥
+clash e = let z : _≡_ {A = ℕ} 0 1 = cc in omega arith
 
 pub octets-drop : (k : ℕ) (s : List ℕ) → Octets s → Octets (drop k s)
 octets-drop k s b i = rw (getD-drop k s i 0) (b (k + i))
@@ -93,6 +97,52 @@ tokens-sane ty (suc k) s b e =
     let t = tokenAt s in
     more (record { tag = fit-tag ty t (and-left (tokenFits ty t) (tokensFit ty (readTokens k (drop 5 s))) e); value = read-small s b })
     (tokens-sane ty k (drop 5 s) (octets-drop 5 s b) (and-right (tokenFits ty t) (tokensFit ty (readTokens k (drop 5 s))) e))
+
+-- ── what a type holds, four bytes hold ───────────────────────────────────────────────────────
+
+pub within-small : (ty : Ty) (z : ℤ) → ty .p ≤ 30 → within ty z ≡ true → mag z < 2147483648
+unfolding within least greatest
+within-small ty z h e = go (eqb (ty .kind) 1) z e
+  where
+    low : (m n : ℕ) → leZ (negℤ (pos m)) (negsuc n) ≡ true → n < m
+    low zero n e = let f : false ≡ true = e in absurd (clash f)
+    low (suc m) n e = omega (arith, leb-true n m e)
+
+    go : (k : Bool) (z : ℤ) → (leZ (cond k (negℤ (pos (2 ^ (ty .p - 1)))) (pos 0)) z && leZ z (pos (cond k (2 ^ (ty .p - 1)) (2 ^ ty .p) - 1))) ≡ true → mag z < 2147483648
+    go true (pos n) e =
+        let a = and-right (leZ (negℤ (pos (2 ^ (ty .p - 1)))) (pos n)) (leb n (2 ^ (ty .p - 1) - 1)) e in
+        omega (arith, leb-true n (2 ^ (ty .p - 1) - 1) a, pow-mono {i = ty .p - 1} {j = 30} (omega arith))
+    go false (pos n) e =
+        let a = and-right (leb 0 n) (leb n (2 ^ ty .p - 1)) e in
+        omega (arith, leb-true n (2 ^ ty .p - 1) a, pow-mono {i = ty .p} {j = 30} h)
+    go true (negsuc n) e =
+        let a = and-left (leZ (negℤ (pos (2 ^ (ty .p - 1)))) (negsuc n)) true e in
+        omega (arith, low (2 ^ (ty .p - 1)) n a, pow-mono {i = ty .p - 1} {j = 30} (omega arith))
+    go false (negsuc n) e = absurd (clash e)
+
+zero-small : (z : ℤ) → eqZ z (pos 0) ≡ true → mag z < 2147483648
+unfolding eqZ
+zero-small (pos n) e = omega (arith, eqb-true n 0 e)
+zero-small (negsuc n) e = absurd (clash e)
+
+carried-p : (ty : Ty) → (carried ty) .p ≡ ty .p
+unfolding carried
+carried-p ty = go (isDc ty)
+  where
+    go : (b : Bool) → (cond b (record { kind = ty .kind - 2; p = ty .p }) ty) .p ≡ ty .p
+    go true = refl
+    go false = refl
+
+-- a token of a wire's type
+pub fits-sane : (ty : Ty) (t : Token) → ty .p ≤ 30 → tokenFits ty t ≡ true → Sane t
+unfolding tokenFits
+fits-sane ty t h e =
+    let v : Bool = cond (eqb (t .tag) 1 || eqb (t .tag) 2) (eqZ (t .value) (pos 0)) (within (carried ty) (t .value)) in
+    record { tag = fit-tag ty t e; value = go (eqb (t .tag) 1 || eqb (t .tag) 2) (and-right (tagFits ty (t .tag) && leb (t .tag) 3) v e) }
+  where
+    go : (b : Bool) → cond b (eqZ (t .value) (pos 0)) (within (carried ty) (t .value)) ≡ true → mag (t .value) < 2147483648
+    go true e = zero-small (t .value) e
+    go false e = within-small (carried ty) (t .value) (omega (arith, carried-p ty)) e
 
 -- ── a room ───────────────────────────────────────────────────────────────────────────────────
 

@@ -1,11 +1,11 @@
 -- The whole state: a wire's or a process's bytes in it, another queue or other contents in their place, and the state read back.
 -- Assumes nothing.
-use Prim.Native.Nat.{ℕ, zero, suc, _+_, _≤_, _<_}
+use Prim.Native.Nat.{ℕ, zero, suc, _+_, _-_, _≤_, _<_}
 use mathlib.Core.Path.{_≡_, refl, sym, ap, ap₂, _∙_}
 use mathlib.Core.Bool.{Bool, true}
 use mathlib.Core.List.{List, [], _∷_, _++_, map, zipWith, append-assoc}
 use native.Mathlib.Omega.{arith}
-use native.Mathlib.Nat.{not-suc-le-zero, le-of-suc-le-suc}
+use native.Mathlib.Nat.{add-sub-cancel-left, not-suc-le-zero, le-of-suc-le-suc}
 use lib.ListN.{length, getD, take, drop, set, length-append, length-map, length-drop, List·getD-append}
 use lib.Seq.{length-take-le, drop-at, take-add, getD-append-add, set-append-left, take-append-seam, drop-append-seam}
 use Rattle.model.specs.declared.Token.{Token}
@@ -155,6 +155,27 @@ module _ (n : Net) (s : State) (h : Sound n s) where
   pub sound-own : (k : ℕ) (o : Own) → Kept (proc n k) o → Sound n (record { queues = s .queues; owns = set (s .owns) k o })
   unfolding proc
   sound-own k o g = record { wires = h .wires; procs = both-set (h .procs) k nobody o g }
+
+  -- ── a lent part: what it is, and the state when another comes back in its place ──
+
+  module _ (whole rest : List ℕ) (e : whole ≡ bytesOf n s ++ rest) where
+    pub wire-part : (i a b : ℕ) → i < length (n .wires) → a ≡ wireStart n i → b ≡ a + wireSize (wire n i) → mid a (b - a) whole ≡ wireBytes (wire n i) (queue s i)
+    wire-part i a b l p q = rw (q, add-sub-cancel-left a (wireSize (wire n i)), p, e) (wire-read rest i l)
+
+    pub wire-edit : (f : List ℕ → List ℕ) (last : List ℕ) (t : List Token) (i a b : ℕ) → i < length (n .wires) → a ≡ wireStart n i → b ≡ a + wireSize (wire n i) →
+        last ≡ f (mid a (b - a) whole) → f (wireBytes (wire n i) (queue s i)) ≡ wireBytes (wire n i) t → putMid a (b - a) whole last ≡ bytesOf n (record { queues = set (s .queues) i t; owns = s .owns }) ++ rest
+    wire-edit f last t i a b l p q x y =
+        let z : last ≡ wireBytes (wire n i) t = x ∙ ap f (wire-part i a b l p q) ∙ y in
+        rw (z, q, add-sub-cancel-left a (wireSize (wire n i)), p, e) (wire-put rest i t l)
+
+    pub own-part : (k a b : ℕ) → k < length (n .procs) → a ≡ ownStart n k → b ≡ a + ownSize (proc n k) → mid a (b - a) whole ≡ ownBytes (proc n k) (own s k)
+    own-part k a b l p q = rw (q, add-sub-cancel-left a (ownSize (proc n k)), p, e) (own-read rest k l)
+
+    pub own-edit : (f : List ℕ → List ℕ) (last : List ℕ) (o : Own) (k a b : ℕ) → k < length (n .procs) → a ≡ ownStart n k → b ≡ a + ownSize (proc n k) →
+        last ≡ f (mid a (b - a) whole) → f (ownBytes (proc n k) (own s k)) ≡ ownBytes (proc n k) o → putMid a (b - a) whole last ≡ bytesOf n (record { queues = s .queues; owns = set (s .owns) k o }) ++ rest
+    own-edit f last o k a b l p q x y =
+        let z : last ≡ ownBytes (proc n k) o = x ∙ ap f (own-part k a b l p q) ∙ y in
+        rw (z, q, add-sub-cancel-left a (ownSize (proc n k)), p, e) (own-put rest k o l)
 
 -- ── parts end within the state ───────────────────────────────────────────────────────────────
 
