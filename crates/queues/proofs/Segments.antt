@@ -44,10 +44,13 @@ segment-read (x ∷ xs) rest (suc i) h = rw (append-assoc, drop-append-add) (seg
 pub segment-put : (xs : List (List ℕ)) (rest : List ℕ) (i : ℕ) (ys : List ℕ) → i < length xs → putMid (startOf (lengths xs) i) (length (getD xs i [])) (cat xs ++ rest) ys ≡ cat (set xs i ys) ++ rest
 unfolding cat sum startOf
 segment-put [] rest i ys h = absurd (not-suc-le-zero h)
-segment-put (x ∷ xs) rest zero ys h = rw (append-assoc, drop-append-seam, append-assoc)
+segment-put (x ∷ xs) rest zero ys h =
+    ap (λ (l : List ℕ). ys ++ drop (length x) l) (append-assoc x (cat xs) rest) ∙ ap (λ (l : List ℕ). ys ++ l) (drop-append-seam x (cat xs ++ rest)) ∙ sym (append-assoc ys (cat xs) rest)
 segment-put (x ∷ xs) rest (suc i) ys h =
-    rw (append-assoc, take-append-add, drop-append-add, append-assoc)
-    (ap (λ (l : List ℕ). x ++ l) (segment-put xs rest i ys (le-of-suc-le-suc h)) ∙ sym (append-assoc x (cat (set xs i ys)) rest))
+    let a : ℕ = startOf (lengths xs) i in
+    let k : ℕ = length (getD xs i []) in
+    ap (λ (l : List ℕ). putMid (length x + a) k l ys) (append-assoc x (cat xs) rest) ∙ put-after x (cat xs ++ rest) ys (length x) a k refl
+    ∙ ap (λ (l : List ℕ). x ++ l) (segment-put xs rest i ys (le-of-suc-le-suc h)) ∙ sym (append-assoc x (cat (set xs i ys)) rest)
 
 -- the same, where its place, what it is and its length are told otherwise
 pub read-at : (xs : List (List ℕ)) (rest x : List ℕ) (i a k : ℕ) → i < length xs → startOf (lengths xs) i ≡ a → getD xs i [] ≡ x → length x ≡ k → mid a k (cat xs ++ rest) ≡ x

@@ -56,6 +56,21 @@ unfolding zipWith
 zip-lengths f g e neither = refl
 zip-lengths f g e (pair {x = a} {y = b} r rs) = ap₂ (λ (n : ℕ) (l : List ℕ). n ∷ l) (e a b r) (zip-lengths f g e rs)
 
+-- ── parts end within the state ───────────────────────────────────────────────────────────────
+
+size-at : {A : Type 0} (f : A → ℕ) (xs : List A) (i : ℕ) (d : A) → i < length xs → getD (map f xs) i 0 ≡ f (getD xs i d)
+size-at f [] i d l = absurd (not-suc-le-zero l)
+size-at f (x ∷ xs) zero d l = refl
+size-at f (x ∷ xs) (suc i) d l = size-at f xs i d (le-of-suc-le-suc l)
+
+pub wire-in : (n : Net) (i : ℕ) → i < length (n .wires) → wireStart n i + wireSize (wire n i) ≤ wiresSize n
+unfolding wireStart wiresSize wire
+wire-in n i l = omega (arith, start-in (map wireSize (n .wires)) i (omega (arith, length-map (n .wires) wireSize)), size-at wireSize (n .wires) i noWire l)
+
+pub own-in : (n : Net) (k : ℕ) → k < length (n .procs) → ownStart n k + ownSize (proc n k) ≤ stateSize n
+unfolding ownStart stateSize proc
+own-in n k l = omega (arith, start-in (map ownSize (n .procs)) k (omega (arith, length-map (n .procs) ownSize)), size-at ownSize (n .procs) k nobody l)
+
 -- ── sizes ────────────────────────────────────────────────────────────────────────────────────
 
 map-append : {A B : Type 0} (f : A → B) (a b : List A) → map f (a ++ b) ≡ map f a ++ map f b
@@ -162,6 +177,10 @@ module _ (n : Net) (s : State) (h : Sound n s) where
     pub wire-part : (i a b : ℕ) → i < length (n .wires) → a ≡ wireStart n i → b ≡ a + wireSize (wire n i) → mid a (b - a) whole ≡ wireBytes (wire n i) (queue s i)
     wire-part i a b l p q = rw (q, add-sub-cancel-left a (wireSize (wire n i)), p, e) (wire-read rest i l)
 
+    pub wire-end : (i a b : ℕ) → i < length (n .wires) → a ≡ wireStart n i → b ≡ a + wireSize (wire n i) → b ≤ length whole
+    unfolding stateSize
+    wire-end i a b l p q = rw e (omega (arith, length-append (bytesOf n s) rest, length-bytes, wire-in n i l))
+
     pub wire-edit : (f : List ℕ → List ℕ) (last : List ℕ) (t : List Token) (i a b : ℕ) → i < length (n .wires) → a ≡ wireStart n i → b ≡ a + wireSize (wire n i) →
         last ≡ f (mid a (b - a) whole) → f (wireBytes (wire n i) (queue s i)) ≡ wireBytes (wire n i) t → putMid a (b - a) whole last ≡ bytesOf n (record { queues = set (s .queues) i t; owns = s .owns }) ++ rest
     wire-edit f last t i a b l p q x y =
@@ -171,26 +190,14 @@ module _ (n : Net) (s : State) (h : Sound n s) where
     pub own-part : (k a b : ℕ) → k < length (n .procs) → a ≡ ownStart n k → b ≡ a + ownSize (proc n k) → mid a (b - a) whole ≡ ownBytes (proc n k) (own s k)
     own-part k a b l p q = rw (q, add-sub-cancel-left a (ownSize (proc n k)), p, e) (own-read rest k l)
 
+    pub own-end : (k a b : ℕ) → k < length (n .procs) → a ≡ ownStart n k → b ≡ a + ownSize (proc n k) → b ≤ length whole
+    own-end k a b l p q = rw e (omega (arith, length-append (bytesOf n s) rest, length-bytes, own-in n k l))
+
     pub own-edit : (f : List ℕ → List ℕ) (last : List ℕ) (o : Own) (k a b : ℕ) → k < length (n .procs) → a ≡ ownStart n k → b ≡ a + ownSize (proc n k) →
         last ≡ f (mid a (b - a) whole) → f (ownBytes (proc n k) (own s k)) ≡ ownBytes (proc n k) o → putMid a (b - a) whole last ≡ bytesOf n (record { queues = s .queues; owns = set (s .owns) k o }) ++ rest
     own-edit f last o k a b l p q x y =
         let z : last ≡ ownBytes (proc n k) o = x ∙ ap f (own-part k a b l p q) ∙ y in
         rw (z, q, add-sub-cancel-left a (ownSize (proc n k)), p, e) (own-put rest k o l)
-
--- ── parts end within the state ───────────────────────────────────────────────────────────────
-
-size-at : {A : Type 0} (f : A → ℕ) (xs : List A) (i : ℕ) (d : A) → i < length xs → getD (map f xs) i 0 ≡ f (getD xs i d)
-size-at f [] i d l = absurd (not-suc-le-zero l)
-size-at f (x ∷ xs) zero d l = refl
-size-at f (x ∷ xs) (suc i) d l = size-at f xs i d (le-of-suc-le-suc l)
-
-pub wire-in : (n : Net) (i : ℕ) → i < length (n .wires) → wireStart n i + wireSize (wire n i) ≤ wiresSize n
-unfolding wireStart wiresSize wire
-wire-in n i l = omega (arith, start-in (map wireSize (n .wires)) i (omega (arith, length-map (n .wires) wireSize)), size-at wireSize (n .wires) i noWire l)
-
-pub own-in : (n : Net) (k : ℕ) → k < length (n .procs) → ownStart n k + ownSize (proc n k) ≤ stateSize n
-unfolding ownStart stateSize proc
-own-in n k l = omega (arith, start-in (map ownSize (n .procs)) k (omega (arith, length-map (n .procs) ownSize)), size-at ownSize (n .procs) k nobody l)
 
 -- ── the state read back ──────────────────────────────────────────────────────────────────────
 
