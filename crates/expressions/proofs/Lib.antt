@@ -1,0 +1,5 @@
+-- Laws of reading, and the proofs of the code.
+pub mod Reading
+pub mod Heads
+pub mod Shapes
+pub mod Depths

@@ -1,0 +1,83 @@
+-- An expression by its head and its operands: which expression it is, by the code.
+-- Assumes nothing.
+use mathlib.Core.Path.{_≡_, refl, sym, ap, _∙_}
+use mathlib.Core.Bool.{Bool, true, false, cond}
+use mathlib.Core.List.{List, [], _∷_}
+use Prim.Native.Nat.{ℕ, zero, suc, _+_, _-_, _≤_, _<_}
+use native.Mathlib.Omega.{arith}
+use lib.Dec.{leb, eqb}
+use lib.ListN.{getD, drop, length, length-drop}
+use borrow.Author.Tests.{le-leb, lt-leb, eq-eqb, ne-eqb, leb-true, leb-false}
+use Rattle.model.specs.Bytes.{valueAt}
+use Rattle.model.specs.Expressions.{Exp, literal, matched, variable, cast, one, two, if, Read, bad, got, after, readMany, operands, typeAt, build}
+
+-- ── the code by the count of operands ────────────────────────────────────────────────────────
+
+-- the count, as the tests on the code give it
+by-tests : (x y z : Bool) (c : ℕ) → leb c 2 ≡ x → leb c 5 ≡ y → leb c 27 ≡ z → (k : ℕ) → cond x 0 (cond y 1 (cond z 2 3)) ≡ k → ((k ≡ 0 → c ≤ 2) × (k ≡ 1 → (3 ≤ c) × (c ≤ 5))) × ((k ≡ 2 → (6 ≤ c) × (c ≤ 27)) × ((k ≡ 3 → 28 ≤ c) × (k ≤ 3)))
+by-tests true y z c e f g k h =
+    let a = leb-true c 2 e in
+    (((λ i. a), (λ i. absurd (omega arith))), ((λ i. absurd (omega arith)), ((λ i. absurd (omega arith)), omega arith)))
+by-tests false true z c e f g k h =
+    let a = leb-false c 2 e in
+    let b = leb-true c 5 f in
+    (((λ i. absurd (omega arith)), (λ i. (a, b))), ((λ i. absurd (omega arith)), ((λ i. absurd (omega arith)), omega arith)))
+by-tests false false true c e f g k h =
+    let a = leb-false c 5 f in
+    let b = leb-true c 27 g in
+    (((λ i. absurd (omega arith)), (λ i. absurd (omega arith))), ((λ i. (a, b)), ((λ i. absurd (omega arith)), omega arith)))
+by-tests false false false c e f g k h =
+    let a = leb-false c 27 g in
+    (((λ i. absurd (omega arith)), (λ i. absurd (omega arith))), ((λ i. absurd (omega arith)), ((λ i. a), omega arith)))
+
+module _ (c : ℕ) where
+  pub no-operand : operands c ≡ 0 → c ≤ 2
+  unfolding operands
+  no-operand e = (by-tests (leb c 2) (leb c 5) (leb c 27) c refl refl refl 0 e) .0 .0 refl
+
+  pub one-operand : operands c ≡ 1 → (3 ≤ c) × (c ≤ 5)
+  unfolding operands
+  one-operand e = (by-tests (leb c 2) (leb c 5) (leb c 27) c refl refl refl 1 e) .0 .1 refl
+
+  pub two-operands : operands c ≡ 2 → (6 ≤ c) × (c ≤ 27)
+  unfolding operands
+  two-operands e = (by-tests (leb c 2) (leb c 5) (leb c 27) c refl refl refl 2 e) .1 .0 refl
+
+  pub three-operands : operands c ≡ 3 → 28 ≤ c
+  unfolding operands
+  three-operands e = (by-tests (leb c 2) (leb c 5) (leb c 27) c refl refl refl 3 e) .1 .1 .0 refl
+
+  pub at-most-three : operands c ≤ 3
+  unfolding operands
+  at-most-three = (by-tests (leb c 2) (leb c 5) (leb c 27) c refl refl refl (operands c) refl) .1 .1 .1
+
+-- ── the expression by the code ───────────────────────────────────────────────────────────────
+
+module _ (s : List ℕ) (c : ℕ) (h : getD s 0 0 ≡ c) where
+  pub build-literal : (es : List Exp) → c ≡ 0 → build s es ≡ literal (typeAt s 1) (valueAt s 3)
+  unfolding build
+  build-literal es e = rw (h, e)
+
+  pub build-matched : (es : List Exp) → c ≡ 1 → build s es ≡ matched (getD s 1 0)
+  unfolding build
+  build-matched es e = rw (h, e)
+
+  pub build-variable : (es : List Exp) → c ≡ 2 → build s es ≡ variable (getD s 1 0)
+  unfolding build
+  build-variable es e = rw (h, e)
+
+  pub build-cast : (x : Exp) → c ≡ 3 → build s (x ∷ []) ≡ cast (typeAt s 1) x
+  unfolding build
+  build-cast x e = rw (h, e)
+
+  pub build-one : (x : Exp) → 4 ≤ c → c ≤ 5 → build s (x ∷ []) ≡ one c x
+  unfolding build
+  build-one x a b = rw (h, ne-eqb c 0 (λ i. omega arith), ne-eqb c 1 (λ i. omega arith), ne-eqb c 2 (λ i. omega arith), ne-eqb c 3 (λ i. omega arith), le-leb c 5 b)
+
+  pub build-two : (x y : Exp) → 6 ≤ c → c ≤ 27 → build s (x ∷ y ∷ []) ≡ two c x y
+  unfolding build
+  build-two x y a b = rw (h, ne-eqb c 0 (λ i. omega arith), ne-eqb c 1 (λ i. omega arith), ne-eqb c 2 (λ i. omega arith), ne-eqb c 3 (λ i. omega arith), lt-leb c 5 (omega arith), le-leb c 27 b)
+
+  pub build-if : (x y z : Exp) → 28 ≤ c → build s (x ∷ y ∷ z ∷ []) ≡ if x y z
+  unfolding build
+  build-if x y z a = rw (h, ne-eqb c 0 (λ i. omega arith), ne-eqb c 1 (λ i. omega arith), ne-eqb c 2 (λ i. omega arith), ne-eqb c 3 (λ i. omega arith), lt-leb c 5 (omega arith), lt-leb c 27 (omega arith))
