@@ -4,3 +4,4 @@ pub mod Stores
 pub mod Queues
 pub mod Reading
 pub mod Whole
+pub mod Saved

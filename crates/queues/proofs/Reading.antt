@@ -19,21 +19,11 @@ use Rattle.model.specs.Values.{isDc, least, greatest, within, carried, eqZ}
 use Rattle.model.specs.Rules.{tagFits}
 use Rattle.model.specs.Network.{Wire, Variable, Proc, box, input, output, Net, Own, vars, taken, got, wire, varsOf, takenOf, gotOf}
 use Rattle.model.specs.States.{tokenAt, readTokens, tokenBytes, tokensBytes, tokenFits, tokensFit, roomBytes, wireBytes, valuesBytes, ownBytes, wireSize, ownSize, allZero, roomFits, wireFits, queueIn, valuesIn, ownFits, ownIn}
+use Rattle.model.proofs.Tests.{and-left, and-right}
 use Rattle.octets.proofs.Laws.{Octets, two-back, two-take, value-back, value-take, value-drop, value-below, length-two, length-value, length-token}
 use Rattle.queues.specs.Sound.{Each, none, more, Small, Sane, Held, Kept, ofBox, ofInput, ofOutput}
 
 -- ── tests ────────────────────────────────────────────────────────────────────────────────────
-
-pub and-left : (a b : Bool) → (a && b) ≡ true → a ≡ true
-and-left true b e = refl
-and-left false b e = e
-
-pub and-right : (a b : Bool) → (a && b) ≡ true → b ≡ true
-and-right true b e = e
-and-right false b e = let f : true ≡ false = sym e in cc
-
-clash : false ≡ true → ⊥
-clash e = let z : _≡_ {A = ℕ} 0 1 = cc in omega arith
 
 pub octets-drop : (k : ℕ) (s : List ℕ) → Octets s → Octets (drop k s)
 octets-drop k s b i = rw (getD-drop k s i 0) (b (k + i))

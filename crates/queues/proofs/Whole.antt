@@ -11,12 +11,13 @@ use lib.Seq.{length-take-le, drop-at, take-add, getD-append-add, set-append-left
 use Rattle.model.specs.declared.Token.{Token}
 use Rattle.model.specs.Network.{Net, Own, State, vars, noWire, nobody, wire, proc, queue, own}
 use Rattle.model.specs.States.{wireBytes, ownBytes, cat, segments, bytesOf, wireSize, ownSize, sum, wiresSize, stateSize, wireFits, ownFits, queueIn, ownIn, split, allTrue, wireParts, ownParts, stateFits, stateIn}
+use Rattle.model.proofs.Tests.{and-left, and-right}
 use Rattle.octets.proofs.Laws.{Octets}
 use Rattle.queues.specs.Segments.{mid, putMid, startOf, wireStart, ownStart}
 use Rattle.queues.specs.Sound.{Both, neither, pair, Held, Kept, Sound}
 use Rattle.queues.proofs.Segments.{lengths, length-cat, read-at, put-at, start-in, sum-append, start-first, start-second, set-second, cat-append}
 use Rattle.queues.proofs.Queues.{length-wire, length-own}
-use Rattle.queues.proofs.Reading.{and-left, and-right, octets-take, octets-drop, wire-back, wire-whole, wire-held, own-back, own-whole, own-kept}
+use Rattle.queues.proofs.Reading.{octets-take, octets-drop, wire-back, wire-whole, wire-held, own-back, own-whole, own-kept}
 
 -- ── pairs of lists ───────────────────────────────────────────────────────────────────────────
 
@@ -213,20 +214,35 @@ unfolding zipWith
 zip-back f g e neither = refl
 zip-back {B = B} f g e (pair {x = a} {y = b} r rs) = ap₂ (λ (y : B) (l : List B). y ∷ l) (e a b r) (zip-back f g e rs)
 
+-- the parts of a state's bytes
+module _ (n : Net) (s : State) (h : Sound n s) (rest : List ℕ) where
+  abbrev wire-bytes : List (List ℕ)
+  wire-bytes = zipWith wireBytes (n .wires) (s .queues)
+
+  abbrev own-bytes : List (List ℕ)
+  own-bytes = zipWith ownBytes (n .procs) (s .owns)
+
+  in-two : bytesOf n s ++ rest ≡ cat wire-bytes ++ (cat own-bytes ++ rest)
+  unfolding bytesOf segments
+  in-two = ap (λ (l : List ℕ). l ++ rest) (cat-append wire-bytes own-bytes) ∙ append-assoc (cat wire-bytes) (cat own-bytes) rest
+
+  pub parts-wires : wireParts n (bytesOf n s ++ rest) ≡ wire-bytes
+  unfolding wireParts
+  parts-wires = ap₂ split (sym (wire-lengths n s h)) in-two ∙ split-cat wire-bytes (cat own-bytes ++ rest)
+
+  pub parts-owns : ownParts n (bytesOf n s ++ rest) ≡ own-bytes
+  unfolding ownParts wiresSize
+  parts-owns =
+      let d : drop (sum (map wireSize (n .wires))) (bytesOf n s ++ rest) ≡ cat own-bytes ++ rest =
+      ap (drop (sum (map wireSize (n .wires)))) in-two ∙ drop-at (cat wire-bytes) (cat own-bytes ++ rest) (sum (map wireSize (n .wires))) (length-cat wire-bytes ∙ ap sum (wire-lengths n s h)) in
+      ap₂ split (sym (own-lengths n s h)) d ∙ split-cat own-bytes rest
+
 -- the bytes of a state hold that state
 pub state-back : (n : Net) (s : State) → Sound n s → (rest : List ℕ) → stateIn n (bytesOf n s ++ rest) ≡ s
-unfolding stateIn wireParts ownParts bytesOf segments wiresSize
+unfolding stateIn
 state-back n s h rest =
-    let a : List (List ℕ) = zipWith wireBytes (n .wires) (s .queues) in
-    let b : List (List ℕ) = zipWith ownBytes (n .procs) (s .owns) in
-    let c : cat (a ++ b) ++ rest ≡ cat a ++ (cat b ++ rest) = ap (λ (l : List ℕ). l ++ rest) (cat-append a b) ∙ append-assoc (cat a) (cat b) rest in
-    let p : split (map wireSize (n .wires)) (cat (a ++ b) ++ rest) ≡ a =
-    ap₂ split (sym (wire-lengths n s h)) c ∙ split-cat a (cat b ++ rest) in
-    let d : drop (sum (map wireSize (n .wires))) (cat (a ++ b) ++ rest) ≡ cat b ++ rest =
-    ap (drop (sum (map wireSize (n .wires)))) c ∙ drop-at (cat a) (cat b ++ rest) (sum (map wireSize (n .wires))) (length-cat a ∙ ap sum (wire-lengths n s h)) in
-    let q : split (map ownSize (n .procs)) (drop (sum (map wireSize (n .wires))) (cat (a ++ b) ++ rest)) ≡ b = ap₂ split (sym (own-lengths n s h)) d ∙ split-cat b rest in
-    let u = ap (zipWith queueIn (n .wires)) p ∙ zip-back wireBytes queueIn (λ w k r. wire-back w k (r .sane)) (h .wires) in
-    let v = ap (zipWith ownIn (n .procs)) q ∙ zip-back ownBytes ownIn (λ x o r. own-back r) (h .procs) in
+    let u = ap (zipWith queueIn (n .wires)) (parts-wires n s h rest) ∙ zip-back wireBytes queueIn (λ w k r. wire-back w k (r .sane)) (h .wires) in
+    let v = ap (zipWith ownIn (n .procs)) (parts-owns n s h rest) ∙ zip-back ownBytes ownIn (λ x o r. own-back r) (h .procs) in
     λ i. record { queues = u i; owns = v i }
 
 -- bytes that fit, part by part: each part is the layout of what it holds
@@ -244,7 +260,7 @@ module _ {A B : Type 0} (f : A → B → List ℕ) (g : A → List ℕ → B) (s
       ap₂ (λ (y z : List ℕ). y ++ z) (e x p (octets-take (size x) s b) m (and-left (fits x p) (allTrue (zipWith fits xs (split (map size xs) r))) t))
       (zip-whole e xs r (octets-drop (size x) s b) k (and-right (fits x p) (allTrue (zipWith fits xs (split (map size xs) r))) t)) ∙ sym (take-add (size x) (sum (map size xs)) s)
 
-  zip-sound : (R : A → B → Type 0) → ((x : A) (s : List ℕ) → Octets s → fits x s ≡ true → R x (g x s)) →
+  pub zip-sound : (R : A → B → Type 0) → ((x : A) (s : List ℕ) → Octets s → fits x s ≡ true → R x (g x s)) →
       (xs : List A) (s : List ℕ) → Octets s → allTrue (zipWith fits xs (split (map size xs) s)) ≡ true → Both R xs (zipWith g xs (split (map size xs) s))
   unfolding zipWith split allTrue
   zip-sound R e [] s b t = neither
