@@ -25,6 +25,9 @@ use Rattle.queues.specs.Sound.{Each, none, more, Small, Sane, Held, Kept
 
 -- ── tests ────────────────────────────────────────────────────────────────────────────────────
 
+clash : false ≡ true → ⊥
+clash e = let z : _≡_ {A = ℕ} 0 1 = cc in omega arith
+
 pub octets-drop : (k : ℕ) (s : List ℕ) → Octets s → Octets (drop k s)
 octets-drop k s b i = rw (getD-drop k s i 0) (b (k + i))
 
