@@ -33,6 +33,10 @@ loop = 1 ∷ 0 ∷ 3 ∷ 1 ∷ 8 ∷ 1 ∷ 2 ∷ 0 ∷ 5 ∷ 1 ∷ 1 ∷ 0 ∷ 0
 unfoldable through : List ℕ
 through = 1 ∷ 0 ∷ 3 ∷ 0 ∷ 1 ∷ 1 ∷ 4 ∷ 0 ∷ 1 ∷ 0 ∷ 5 ∷ 0 ∷ 3 ∷ 0 ∷ 0 ∷ 1 ∷ []
 
+-- a box that sends its first variable and swaps the two, 1 and 2 at the start
+unfoldable swap : List ℕ
+swap = 1 ∷ 0 ∷ 3 ∷ 2 ∷ 8 ∷ 1 ∷ 2 ∷ 0 ∷ 16 ∷ 0 ∷ 1 ∷ 2 ∷ 0 ∷ 2 ∷ 8 ∷ 0 ∷ 0 ∷ 0 ∷ 1 ∷ 2 ∷ 8 ∷ 0 ∷ 0 ∷ 0 ∷ 2 ∷ 3 ∷ 0 ∷ 18 ∷ 0 ∷ 0 ∷ 0 ∷ 0 ∷ 1 ∷ 0 ∷ 0 ∷ 0 ∷ 1 ∷ 1 ∷ 2 ∷ 0 ∷ 1 ∷ 2 ∷ 1 ∷ 1 ∷ 2 ∷ 0 ∷ 5 ∷ 0 ∷ 3 ∷ 0 ∷ 0 ∷ 4 ∷ []
+
 unfoldable none-for-one : List ℕ
 none-for-one = 32 ∷ 0 ∷ 0 ∷ []
 
@@ -97,7 +101,7 @@ calc o t a b = worked (o ∷ (lit t a ++ lit t b))
 -- ── P1 to P12 ────────────────────────────────────────────────────────────────────────────────
 
 unfoldable table : List Row
-unfolding inc three loop start history ran signed unsigned lit worked calc opened
+unfolding inc three loop swap start history ran signed unsigned lit worked calc opened
 table =
     -- P1, INC marks 2, 1, 6, 1, 6, 1, 4 in cycles 1 to 7; then nothing
     record { shown = sets (history (inc 1) three 8 (start (inc 1) three 56)); stated = sets (map marks (2 ∷ 1 ∷ 6 ∷ 1 ∷ 6 ∷ 1 ∷ 4 ∷ 0 ∷ [])) }
@@ -129,6 +133,8 @@ table =
     ∷ record { shown = answers (ran [] [] 0 1000); stated = answers (idle 0) }
     -- and what the run program prints for INC
     ∷ record { shown = prints (printed (inc 1) three); stated = prints (111 ∷ 117 ∷ 116 ∷ 99 ∷ 111 ∷ 109 ∷ 101 ∷ 32 ∷ 105 ∷ 100 ∷ 108 ∷ 101 ∷ 32 ∷ 99 ∷ 121 ∷ 99 ∷ 108 ∷ 101 ∷ 115 ∷ 32 ∷ 55 ∷ 10 ∷ 111 ∷ 117 ∷ 116 ∷ 32 ∷ 48 ∷ 58 ∷ 32 ∷ 50 ∷ 32 ∷ 51 ∷ 32 ∷ 45 ∷ 49 ∷ 50 ∷ 56 ∷ 10 ∷ []) }
+    -- all actions use the variables' values from before the firing
+    ∷ record { shown = prints (printed swap []); stated = prints (111 ∷ 117 ∷ 116 ∷ 99 ∷ 111 ∷ 109 ∷ 101 ∷ 32 ∷ 105 ∷ 100 ∷ 108 ∷ 101 ∷ 32 ∷ 99 ∷ 121 ∷ 99 ∷ 108 ∷ 101 ∷ 115 ∷ 32 ∷ 57 ∷ 10 ∷ 111 ∷ 117 ∷ 116 ∷ 32 ∷ 48 ∷ 58 ∷ 32 ∷ 49 ∷ 32 ∷ 50 ∷ 32 ∷ 49 ∷ 32 ∷ 50 ∷ 10 ∷ []) }
     ∷ []
 
 -- the one statement: every row shows what the workbook writes

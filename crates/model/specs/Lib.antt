@@ -9,4 +9,5 @@ pub mod States
 pub mod Cycles
 pub mod Calls
 pub mod Printing
+pub mod Orders
 pub mod Opened

@@ -1,0 +1,2 @@
+-- Laws of bytes and numbers.
+pub mod Laws

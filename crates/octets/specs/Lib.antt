@@ -1,0 +1,2 @@
+-- What the contracts of bytes cite beside the model.
+pub mod Part
