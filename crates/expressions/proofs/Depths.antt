@@ -25,7 +25,7 @@ and-swap true false true d = refl
 and-swap true false false d = refl
 and-swap false b c d = refl
 
-and-true : (b : Bool) → (b && true) ≡ b
+pub and-true : (b : Bool) → (b && true) ≡ b
 and-true true = refl
 and-true false = refl
 
@@ -47,13 +47,13 @@ leb-max a b d = go (leb a d) (leb b d) refl refl
     go true false e f = lt-leb (max a b) d (omega (arith, leb-false b d f, le-max-right a b))
     go false y e f = lt-leb (max a b) d (omega (arith, leb-false a d e, le-max-left a b))
 
-two-left : (c : ℕ) → c ≤ 2 → (c ≡ 0 → ⊥) → (c ≡ 1 → ⊥) → c ≡ 2
+pub two-left : (c : ℕ) → c ≤ 2 → (c ≡ 0 → ⊥) → (c ≡ 1 → ⊥) → c ≡ 2
 two-left zero l e f = absurd (e refl)
 two-left (suc zero) l e f = absurd (f refl)
 two-left (suc (suc zero)) l e f = refl
 two-left (suc (suc (suc c))) l e f = absurd (omega arith)
 
-four-up : (c : ℕ) → 3 ≤ c → (c ≡ 3 → ⊥) → 4 ≤ c
+pub four-up : (c : ℕ) → 3 ≤ c → (c ≡ 3 → ⊥) → 4 ≤ c
 four-up zero l e = absurd (omega arith)
 four-up (suc zero) l e = absurd (omega arith)
 four-up (suc (suc zero)) l e = absurd (omega arith)
@@ -103,7 +103,7 @@ module _ (d : ℕ) (s : List ℕ) (c : ℕ) (h : getD s 0 0 ≡ c) where
   unfolding shallow preciseHead depthOf precise
   built-if x y z l = rw (build-if s c h x y z l, h, ne-eqb c 0 (λ i. omega arith), ne-eqb c 3 (λ i. omega arith)) (three-deep d x y z)
 
-  built : (es : List Exp) → length es ≡ operands c → shallow (suc d) (build s es) ≡ (preciseHead s && allShallow d es)
+  pub built : (es : List Exp) → length es ≡ operands c → shallow (suc d) (build s es) ≡ (preciseHead s && allShallow d es)
   unfolding allShallow
   built [] e = built-none (eqb c 0) (eqb c 1) refl refl (no-operand c (sym e))
   built (x ∷ []) e = let r = one-operand c (sym e) in built-one (eqb c 3) x refl (r .0) (r .1)
@@ -129,7 +129,7 @@ module _ (f : List ℕ → Read Exp) where
   sized-go k s bad h = tt
   sized-go k s (got a n) h = sized-got k n a (readMany f k (drop n s)) (h (drop n s))
 
-  sized : (k : ℕ) (s : List ℕ) → All (λ es m. length es ≡ k) (readMany f k s)
+  pub sized : (k : ℕ) (s : List ℕ) → All (λ es m. length es ≡ k) (readMany f k s)
   unfolding All readMany
   sized zero s = refl
   sized (suc k) s = sized-go k s (f s) (sized k)
@@ -254,7 +254,7 @@ module _ (d : ℕ) (s : List ℕ) where
 
 -- ── the expression at an offset ──────────────────────────────────────────────────────────────
 
-depth-pos : (e : Exp) → 1 ≤ depthOf e
+pub depth-pos : (e : Exp) → 1 ≤ depthOf e
 unfolding depthOf
 depth-pos (literal t z) = omega arith
 depth-pos (matched i) = omega arith

@@ -3,3 +3,4 @@ pub mod Reading
 pub mod Heads
 pub mod Shapes
 pub mod Depths
+pub mod Parts

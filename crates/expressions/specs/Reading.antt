@@ -14,16 +14,16 @@ unfoldable pub sizeRead : Read Exp → Form  -- its bytes
 sizeRead bad = Malformed
 sizeRead (got e n) = Bytes n
 
-unfoldable pub isGot : {A : Type 0} → Read A → Bool  -- the form is good
-isGot bad = false
-isGot (got a n) = true
-
 -- a literal and a cast name a precision
 unfoldable pub preciseHead : List ℕ → Bool
 preciseHead s = let c = getD s 0 0 in not (eqb c 0 || eqb c 3) || inPrecision (typeAt s 1)
 
 unfoldable pub shallow : ℕ → Exp → Bool  -- not deeper than d, and precise
 shallow d e = leb (depthOf e) d && precise e
+
+unfoldable pub fitsAt : ℕ → Read Exp → Bool  -- it is there, not deeper than d, and precise
+fitsAt d bad = false
+fitsAt d (got e n) = shallow d e
 
 -- the offset after the expression read at an offset, 0 where it is malformed or beyond a limit
 unfoldable pub limitsAt : ℕ → ℕ → Read Exp → ℕ
