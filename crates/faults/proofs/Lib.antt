@@ -1,0 +1,2 @@
+-- Laws of the tests on fields.
+pub mod Laws

@@ -1,0 +1,48 @@
+use Rattle.faults.proofs.Laws.{fault-1, fault-2, fault-4, fault-0, precise-of, types-are}
+use borrow.Author.Tests.{not-true, not-false}
+use mathlib.Core.Path.{sym, _∙_}
+use native.Mathlib.Omega.{arith}
+use borrow.Author.Needs.{needs}
+use Rattle.faults.proofs.box_fault.Statement.{statement}
+use Rattle.faults.proofs.box_fault.Tie as tie
+
+box-form-requires : tie.Need-box-form-requires
+box-form-requires c κs = search needs
+
+returns : tie.Need-returns
+returns c = let f = c .before .box-form in fault-1 _ _ _ (sym (f .ensures) ∙ not-true (f .result) (c .if1 .taken))
+
+box-limits-requires : tie.Need-box-limits-requires
+box-limits-requires c κs = search needs
+
+returns-2 : tie.Need-returns-2
+returns-2 c = let f = c .before .before .before .box-form in let l = c .before .box-limits in fault-2 _ _ _ (sym (f .ensures) ∙ not-false (f .result) (c .before .before .if1 .left)) (sym (l .ensures) ∙ not-true (l .result) (c .if2 .taken))
+
+byte-at-requires : tie.Need-byte-at-requires
+byte-at-requires c κs = search needs
+
+wide-requires : tie.Need-wide-requires
+wide-requires c κs = search needs
+
+variables-fit-requires : tie.Need-variables-fit-requires
+variables-fit-requires c κs = let l = c .before .before .before .box-limits in (omega arith, precise-of _ (c .before .before .before .before .before .before .before .args .seen) (c .wide .result) (cc) (sym (l .ensures) ∙ not-false (l .result) (c .before .before .if2 .left)))
+
+returns-3 : tie.Need-returns-3
+returns-3 c = let f = c .before .before .before .before .before .before .before .box-form in let l = c .before .before .before .before .before .box-limits in let v = c .before .variables-fit in fault-0 _ _ _ (sym (f .ensures) ∙ not-false (f .result) (c .before .before .before .before .before .before .if1 .left)) (sym (l .ensures) ∙ not-false (l .result) (c .before .before .before .before .if2 .left)) (sym (types-are _ (c .before .before .wide .result) (v .result) (cc) (v .ensures)) ∙ c .if3 .taken)
+
+returns-4 : tie.Need-returns-4
+returns-4 c = let f = c .before .before .before .before .before .before .before .box-form in let l = c .before .before .before .before .before .box-limits in let v = c .before .variables-fit in fault-4 _ _ _ (sym (f .ensures) ∙ not-false (f .result) (c .before .before .before .before .before .before .if1 .left)) (sym (l .ensures) ∙ not-false (l .result) (c .before .before .before .before .if2 .left)) (sym (types-are _ (c .before .before .wide .result) (v .result) (cc) (v .ensures)) ∙ c .if3 .left)
+
+pub box-fault-spec : {M : Type 1} → statement M
+box-fault-spec =
+    tie.close
+    (tie.spec
+    box-form-requires
+    returns
+    box-limits-requires
+    returns-2
+    byte-at-requires
+    wide-requires
+    variables-fit-requires
+    returns-3
+    returns-4)

@@ -1,0 +1,2 @@
+-- The tests on a box's variables.
+pub mod Variables

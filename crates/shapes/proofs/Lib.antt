@@ -1,0 +1,2 @@
+-- Laws of types laid out in bytes.
+pub mod Laws

@@ -1,0 +1,2 @@
+-- Types laid out in bytes.
+pub mod Shapes
