@@ -10,6 +10,8 @@ pub mod Sound
 pub mod OrderCheck
 pub mod Accepted
 pub mod Decoded
+pub mod Lookup
 pub mod Whole
+pub mod Sizes
 pub mod AnyOrder
 pub mod Kept

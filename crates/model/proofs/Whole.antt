@@ -23,6 +23,7 @@ use Rattle.model.proofs.Tests.{and-left, and-right, and₂, and₃}
 use Rattle.model.proofs.Wires.{count-append}
 use Rattle.model.proofs.Order.{OneEach, hit-same, hit-other}
 use Rattle.model.proofs.Accepted.{InFile, WireField, InputField, OutputField, Valid, fields-valid}
+use Rattle.model.proofs.Lookup.{wires-length}
 use Rattle.model.proofs.Decoded.{getD-map-lt, Each, each-append, each-tabulate, length-tabulate, getD-tabulate, length-body, body-at, wire-good, box-good, GoodWire, GoodProc, GoodNet}
 
 -- ── verdicts ─────────────────────────────────────────────────────────────────────────────────
@@ -118,10 +119,6 @@ module _ (s : List ℕ) (x : Index) (q : Valid s x) (tokens : List (List Token))
   abbrev n : Net
   n = netOf s x tokens
 
-  wires-length : length (n .wires) ≡ length (x .wires)
-  unfolding netOf wiresOf
-  wires-length = length-map (x .wires) (wireOf s)
-
   input-in : (i : ℕ) → i < length (x .inputs) → inputWire s x i < length (n .wires)
   unfolding inputForm inputWire
   input-in i h =
@@ -130,7 +127,7 @@ module _ (s : List ℕ) (x : Index) (q : Valid s x) (tokens : List (List Token))
       let b = bodyAt s at in
       let p = and₂ (eqb (length b) 1) (ltb (getD b 0 0) (length (x .wires))) (f .passes .form) in
       let e : getD b 0 0 ≡ getD s (at + 3) 0 = body-at s at 0 (f .in-file) (omega (arith, eqb-true (length b) 1 (p .0))) ∙ ap (λ (k : ℕ). getD s k 0) (omega arith) in
-      omega (arith, e, ltb-true (getD b 0 0) (length (x .wires)) (p .1), wires-length)
+      omega (arith, e, ltb-true (getD b 0 0) (length (x .wires)) (p .1), wires-length s x tokens)
 
   output-good : (i : ℕ) → i < length (x .outputs) → GoodProc n (outputAt s x i)
   unfolding outputForm outputLimits outputAt twoAt
@@ -145,14 +142,14 @@ module _ (s : List ℕ) (x : Index) (q : Valid s x) (tokens : List (List Token))
       let e₀ : getD b 0 0 ≡ getD s (at + 3) 0 = at-byte 0 (omega arith) ∙ ap (λ (k : ℕ). getD s k 0) (omega arith) in
       let e₁ : getD b 1 0 ≡ getD s (at + 4) 0 = at-byte 1 (omega arith) ∙ ap (λ (k : ℕ). getD s k 0) (omega arith) in
       let e₂ : getD b (1 + 1) 0 ≡ getD s (at + 4 + 1) 0 = at-byte 2 (omega arith) ∙ ap (λ (k : ℕ). getD s k 0) (omega arith) in
-      (omega (arith, e₀, ltb-true (getD b 0 0) (length (x .wires)) (p .1), wires-length), omega (arith, e₁, e₂, leb-true 1 (twoAt b 1) (l .1)), omega (arith, e₁, e₂, leb-true (twoAt b 1) 1000 (l .2)))
+      (omega (arith, e₀, ltb-true (getD b 0 0) (length (x .wires)) (p .1), wires-length s x tokens), omega (arith, e₁, e₂, leb-true 1 (twoAt b 1) (l .1)), omega (arith, e₁, e₂, leb-true (twoAt b 1) 1000 (l .2)))
 
   -- each input's tokens are of its wire's type
   pub net-good : ((i : ℕ) → i < length (x .inputs) → tokensFit ((wire n (inputWire s x i)) .ty) (getD tokens i []) ≡ true) → GoodNet n
   unfolding netOf wiresOf
   net-good fit = record {
     wires = λ w h.
-        let g : w < length (x .wires) = omega (arith, wires-length) in
+        let g : w < length (x .wires) = omega (arith, wires-length s x tokens) in
         rw (getD-map-lt (wireOf s) (x .wires) w 0 noWire g) (wire-good s w (getD (x .wires) w 0) (q .wires w g));
     procs = each-append (GoodProc n) nobody (tabulate (length (x .boxes)) (λ b. box (boxAt s x b)) ++ tabulate (length (x .inputs)) (inputAt s x tokens)) (tabulate (length (x .outputs)) (outputAt s x))
         (each-append (GoodProc n) nobody (tabulate (length (x .boxes)) (λ b. box (boxAt s x b))) (tabulate (length (x .inputs)) (inputAt s x tokens))
@@ -296,8 +293,8 @@ module _ (s : List ℕ) (x : Index) (c : Checked s x) (tokens : List (List Token
   ports-all : (w : ℕ) → w < length (m .wires) → portsFit (m .procs) w ≡ true
   unfolding portsFit oddWire
   ports-all w h =
-      let l : w < length (x .wires) = omega (arith, wires-length s x (c .valid) tokens) in
-      let e : length ((netOf s x []) .wires) ≡ length (x .wires) = wires-length s x (c .valid) [] in
+      let l : w < length (x .wires) = omega (arith, wires-length s x tokens) in
+      let e : length ((netOf s x []) .wires) ≡ length (x .wires) = wires-length s x [] in
       rw (ports-same insOf s x tokens (λ v a b. unfold insOf in refl), ports-same outsOf s x tokens (λ v a b. unfold outsOf in refl))
       (lowest-all (portsFit ((netOf s x []) .procs)) 0 (length ((netOf s x []) .wires)) (omega (arith, c .wired, e)) w (omega arith) (omega (arith, e)))
 
