@@ -5,15 +5,17 @@ use mathlib.Core.Bool.{Bool, true, false}
 use mathlib.Core.List.{List, [], _∷_, map}
 use native.Mathlib.Omega.{arith}
 use lib.Dec.{ltb}
-use lib.ListN.{length, getD, take, set, length-take, length-drop, length-set, List·getD-eq-default}
+use lib.ListN.{length, getD, take, drop, set, length-take, length-drop, length-set, List·getD-eq-default}
 use lib.Seq.{getD-take, getD-set-same, getD-set-other}
 use borrow.Author.Tests.{ltb-true, ltb-false}
 use Rattle.model.specs.declared.Ty.{Ty}
 use Rattle.model.specs.Bytes.{twoAt, stretch}
 use Rattle.model.specs.Values.{noType}
 use Rattle.model.specs.Expressions.{typeAt}
+use Rattle.model.specs.Rules.{Shape}
 use Rattle.model.specs.Network.{Wire, Variable, noWire, wireTypes, variableTypes, shapeOf}
 use Rattle.model.specs.NetworkFile.{tabulate, variableStart, variableOf, bodyAt, wireOf, boxOf}
+use Rattle.shapes.specs.declared.Arity.{Arity}
 use Rattle.shapes.specs.Shapes.{Lays, typesIn, shapeIn, wiresIn, typeIn, BodyFits, BoxFits}
 
 -- element k of a mapped list
@@ -140,3 +142,37 @@ body-fits s b o len fits e d = rw (d, e) (fits .body)
 pub body-is : (s b : List ℕ) (o len : ℕ) → len ≡ twoAt s (o + 1) → b ≡ stretch s (o + 3) len → b ≡ bodyAt s o
 unfolding bodyAt
 body-is s b o len e d = rw (← e) d
+
+-- a shape's counts are those of its box, 4 at most
+pub length-tabulate : {A : Type 0} (n : ℕ) (f : ℕ → A) → length (tabulate n f) ≡ n
+unfolding tabulate
+length-tabulate zero f = refl
+length-tabulate (suc n) f = ap suc (length-tabulate n (λ k. f (suc k)))
+
+length-wires : (ws : List Wire) (ps : List ℕ) → length (wireTypes ws ps) ≡ length ps
+unfolding wireTypes
+length-wires ws [] = refl
+length-wires ws (p ∷ ps) = ap suc (length-wires ws ps)
+
+module _ (ins outs vars b : List ℕ) (a : Arity) (ws : List Wire) (e : shapeIn ins outs vars a ≡ shapeOf ws (boxOf b)) (fits : BodyFits b) where
+  few : (types : List ℕ) (n at m : ℕ) → typesIn types n ≡ wireTypes ws (stretch b at m) → m ≤ 4 → n ≤ 4
+  unfolding typesIn stretch
+  few types n at m d h =
+      let l = sym (length-tabulate n (λ k. typeAt types (2 * k))) ∙ ap length d ∙ length-wires ws (stretch b at m) ∙ length-take m (drop at b) in
+      omega arith
+
+  pub ins-few : a .ins ≤ 4
+  unfolding shapeIn shapeOf boxOf
+  ins-few = few ins (a .ins) 3 (getD b 0 0) (ap (λ (sh : Shape). sh .ins) e) (fits .ins)
+
+  pub outs-few : a .outs ≤ 4
+  unfolding shapeIn shapeOf boxOf
+  outs-few = few outs (a .outs) (3 + getD b 0 0) (getD b 1 0) (ap (λ (sh : Shape). sh .outs) e) (fits .outs)
+
+  pub vars-few : a .vars ≤ 4
+  unfolding shapeIn shapeOf boxOf typesIn
+  vars-few =
+      let d = ap (λ (sh : Shape). length (sh .vars)) e in
+      let l = length-tabulate (a .vars) (λ k. typeAt vars (2 * k)) in
+      let m = ap length (variable-types (getD b 2 0) (variableOf b)) ∙ length-tabulate (getD b 2 0) (λ k. (variableOf b k) .ty) in
+      omega (arith, fits .vars)
