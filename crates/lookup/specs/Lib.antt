@@ -1,0 +1,2 @@
+-- What the contracts of lookup cite beside the model.
+pub mod Entries
