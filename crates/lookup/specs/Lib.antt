@@ -1,2 +1,3 @@
--- What the contracts of lookup cite beside the model.
+-- What the contracts of lookup, and of the crates above it, cite beside the model.
 pub mod Entries
+pub mod Tabled

@@ -1,0 +1,127 @@
+-- The size of each segment, read off the table.
+-- Assumes nothing.
+use mathlib.Core.Path.{_≡_, refl, sym, ap, _∙_}
+use mathlib.Core.List.{List, [], _∷_, _++_, map}
+use Prim.Native.Nat.{ℕ, zero, suc, _+_, _-_, _*_, _≤_, _<_}
+use native.Mathlib.Omega.{arith}
+use native.Mathlib.Numerals.{add-one}
+use lib.ListN.{length, getD, take, drop, set, length-append, length-map, List·getD-append}
+use lib.Seq.{getD-append-add, take-suc, take-all, take-nil, getD-set-same, getD-set-other}
+use native.Mathlib.Decide.{ℕ-discrete}
+use Rattle.model.specs.Bytes.{twoAt}
+use Rattle.model.specs.Network.{Wire, Proc, box, input, output, Net, wire, proc, noWire, nobody}
+use Rattle.model.specs.NetworkFile.{Index, bodyAt, wireOf, boxOf, boxAt, inputAt, outputAt, netOf}
+use Rattle.model.specs.States.{wireSize, ownSize, sum, wiresSize, stateSize}
+use Rattle.model.proofs.Decoded.{getD-map-lt, length-tabulate}
+use Rattle.model.proofs.Lookup.{wire-at, box-proc, input-proc, output-proc, wires-length, procs-length}
+use Rattle.model.proofs.Sizes.{state-most, sum-append}
+use Rattle.table.specs.declared.Counts.{Counts}
+use Rattle.table.specs.Table.{indexIn}
+use Rattle.queues.specs.Segments.{startOf}
+use Rattle.lookup.specs.Tabled.{Tabled}
+use Rattle.lookup.proofs.Tabled.{valid, n-wires, n-boxes, n-inputs, n-outputs, bare-good, wire-entry, box-entry, output-entry}
+use Rattle.places.specs.Places.{sizesOf, Placed, Placing}
+
+-- ── starts ───────────────────────────────────────────────────────────────────────────────────
+
+sum-one : (k : ℕ) → sum (k ∷ []) ≡ k
+unfolding sum
+sum-one k = omega arith
+
+pub start-next : (sizes : List ℕ) (j : ℕ) → j < length sizes → startOf sizes (j + 1) ≡ startOf sizes j + getD sizes j 0
+unfolding startOf
+start-next sizes j h = rw (add-one j, take-suc sizes j 0 h) (sum-append (take j sizes) (getD sizes j 0 ∷ []) ∙ ap (λ (k : ℕ). sum (take j sizes) + k) (sum-one (getD sizes j 0)))
+
+pub start-all : (sizes : List ℕ) (j : ℕ) → length sizes ≤ j → startOf sizes j ≡ sum sizes
+unfolding startOf
+start-all sizes j h = ap sum (take-all j sizes h)
+
+take-sum : (k : ℕ) (l : List ℕ) → sum (take k l) ≤ sum l
+unfolding sum
+take-sum k [] = by-zero k
+  where
+    by-zero : (k : ℕ) → sum (take k []) ≤ 0
+    by-zero k = rw (take-nil k) (omega arith)
+take-sum k (a ∷ l) = by-count k (λ j. take-sum j l)
+  where
+    by-count : (k : ℕ) → ((j : ℕ) → sum (take j l) ≤ sum l) → sum (take k (a ∷ l)) ≤ a + sum l
+    by-count zero ih = omega arith
+    by-count (suc j) ih = omega (arith, ih j)
+
+pub start-most : (sizes : List ℕ) (j : ℕ) → startOf sizes j ≤ sum sizes
+unfolding startOf
+start-most sizes j = take-sum j sizes
+
+-- ── sizes ────────────────────────────────────────────────────────────────────────────────────
+
+module _ (s t : List ℕ) (c : Counts) (h : Tabled s t c) where
+  abbrev x : Index
+  x = indexIn t c
+
+  abbrev n : Net
+  n = netOf s x []
+
+  procs-n : length (n .procs) ≡ c .boxes + c .inputs + c .outputs
+  procs-n = procs-length s x [] ∙ omega (arith, n-boxes s t c h, n-inputs s t c h, n-outputs s t c h)
+
+  wires-n : length (n .wires) ≡ c .wires
+  wires-n = wires-length s x [] ∙ n-wires s t c h
+
+  pub sizes-length : length (sizesOf n) ≡ c .wires + (c .boxes + c .inputs + c .outputs)
+  unfolding sizesOf
+  sizes-length = length-append (map wireSize (n .wires)) (map ownSize (n .procs)) ∙ omega (arith, length-map (n .wires) wireSize, length-map (n .procs) ownSize, procs-n, wires-n)
+
+  pub sizes-sum : sum (sizesOf n) ≡ stateSize n
+  unfolding sizesOf stateSize wiresSize
+  sizes-sum = sum-append (map wireSize (n .wires)) (map ownSize (n .procs))
+
+  pub sizes-most : sum (sizesOf n) ≤ 61088
+  sizes-most = omega (arith, sizes-sum, state-most s x (valid s t c h) [] (bare-good s t c h))
+
+  pub size-wire : (j k : ℕ) → j < c .wires → k ≡ (wireOf s (getD t j 0)) .capacity → 1 + 5 * k ≡ getD (sizesOf n) j 0
+  unfolding sizesOf wireSize wire
+  size-wire j k l e =
+      let w : wire n j ≡ wireOf s (getD t j 0) = wire-at s x [] j (omega (arith, n-wires s t c h)) ∙ ap (wireOf s) (wire-entry s t c h j l) in
+      sym (List·getD-append (map wireSize (n .wires)) (map ownSize (n .procs)) 0 j (omega (arith, length-map (n .wires) wireSize, wires-n))
+      ∙ getD-map-lt wireSize (n .wires) j noWire 0 (omega (arith, wires-n))
+      ∙ ap (λ (v : Wire). 1 + 5 * v .capacity) w ∙ ap (λ (i : ℕ). 1 + 5 * i) (sym e))
+
+  -- segment wires + k is process k's
+  own-size : (k : ℕ) → k < c .boxes + c .inputs + c .outputs → getD (sizesOf n) (c .wires + k) 0 ≡ ownSize (proc n k)
+  unfolding sizesOf proc
+  own-size k l =
+      ap (λ (i : ℕ). getD (map wireSize (n .wires) ++ map ownSize (n .procs)) (i + k) 0) (sym (length-map (n .wires) wireSize ∙ wires-n))
+      ∙ getD-append-add (map wireSize (n .wires)) (map ownSize (n .procs)) k 0
+      ∙ getD-map-lt ownSize (n .procs) k nobody 0 (omega (arith, procs-n))
+
+  pub size-box : (j k v : ℕ) → j ≡ c .wires + k → k < c .boxes → v ≡ getD (bodyAt s (getD t (64 + k) 0)) 2 0 → 4 * v ≡ getD (sizesOf n) j 0
+  unfolding ownSize boxAt boxOf
+  size-box j k v e l q =
+      rw e (sym (own-size k (omega arith) ∙ ap ownSize (box-proc s x [] k (omega (arith, n-boxes s t c h)))
+      ∙ ap (λ (i : ℕ). 4 * i) (length-tabulate (getD (bodyAt s (getD (x .boxes) k 0)) 2 0) _ ∙ ap (λ (o : ℕ). getD (bodyAt s o) 2 0) (box-entry s t c h k l) ∙ sym q)))
+
+  pub size-input : (j i : ℕ) → j ≡ c .wires + (c .boxes + i) → i < c .inputs → 2 ≡ getD (sizesOf n) j 0
+  unfolding ownSize inputAt
+  size-input j i e l =
+      rw e (sym (own-size (c .boxes + i) (omega arith) ∙ ap (λ (k : ℕ). ownSize (proc n (k + i))) (sym (n-boxes s t c h)) ∙ ap ownSize (input-proc s x [] i (omega (arith, n-inputs s t c h)))))
+
+  pub size-output : (j i v : ℕ) → j ≡ c .wires + (c .boxes + c .inputs + i) → i < c .outputs → v ≡ twoAt s (getD t (648 + i) 0 + 4) → 2 + 5 * v ≡ getD (sizesOf n) j 0
+  unfolding ownSize outputAt
+  size-output j i v e l q =
+      rw e (sym (own-size (c .boxes + c .inputs + i) (omega arith)
+      ∙ ap (λ (k : ℕ). ownSize (proc n (k + i))) (omega (arith, n-boxes s t c h, n-inputs s t c h))
+      ∙ ap ownSize (output-proc s x [] i (omega (arith, n-outputs s t c h)))
+      ∙ ap (λ (k : ℕ). 2 + 5 * k) (ap (λ (o : ℕ). twoAt s (o + 4)) (output-entry s t c h i l) ∙ sym q)))
+
+-- ── the loop ─────────────────────────────────────────────────────────────────────────────────
+
+-- the starts of the first j segments stand in the table
+pub record SoFar (n : Net) (p : List ℕ) (j : ℕ) : Type 0 where
+  pub each : (i : ℕ) → i < j → getD p i 0 ≡ startOf (sizesOf n) i
+
+pub so-far-next : (n : Net) (p : List ℕ) (j v : ℕ) → SoFar n p j → j < length p → v ≡ startOf (sizesOf n) j → SoFar n (set p j v) (j + 1)
+so-far-next n p j v q l e = record { each = λ i h. by-place i h (ℕ-discrete i j) }
+  where
+    by-place : (i : ℕ) → i < j + 1 → Dec (i ≡ j) → getD (set p j v) i 0 ≡ startOf (sizesOf n) i
+    by-place i h (yes z) = rw z (getD-set-same p j v 0 l ∙ e)
+    by-place i h (no f) = getD-set-other p j i v 0 f ∙ q .each i (omega (arith, h, f))

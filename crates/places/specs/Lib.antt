@@ -1,0 +1,2 @@
+-- Where each segment of a state begins.
+pub mod Places

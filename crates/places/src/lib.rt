@@ -1,0 +1,50 @@
+// Where the bytes of each wire and of each process begin in a state, and how many bytes a state takes.
+use model::ProcessId;
+use model::WireId;
+use table::Counts;
+ghost use mathlib.Core.Path.{_≡_};
+ghost use mathlib.Core.List.{[]};
+ghost use Prim.Native.Nat.{_+_, _≤_, _<_};
+ghost use lib.ListN.{length, getD};
+ghost use Rattle.model.specs.NetworkFile.{netOf};
+ghost use Rattle.table.specs.Table.{indexIn};
+ghost use Rattle.lookup.specs.Tabled.{Tabled};
+ghost use Rattle.places.specs.Places.{sizesOf, Placing};
+
+// The bytes of segment j: wires first, then boxes, inputs and outputs.
+pub fn segment_size(net: &[u8], table: &[u16], c: Counts, j: usize) -> usize
+    requires { ⌜ Tabled (now net) (now table) c ⌝ }
+    requires { ⌜ j < c .wires + (c .boxes + c .inputs + c .outputs) ⌝ }
+    ensures { λ r. ⌜ r ≡ getD (sizesOf (netOf (now (net .entry)) (indexIn (now (table .entry)) c) [])) j 0 ⌝ }
+{
+    if j < c.wires {
+        return 1 + 5 * lookup::capacity(net, table, WireId(j as u8));
+    }
+    let k = j - c.wires;
+    if k < c.boxes {
+        let body = lookup::box_body(net, table, ProcessId(k as u8));
+        return 4 * octets::wide(octets::byte_at(body, 2));
+    }
+    let i = k - c.boxes;
+    if i < c.inputs {
+        return 2;
+    }
+    2 + 5 * lookup::room(net, table, i - c.inputs)
+}
+
+// Each segment's start, and the size of all.
+pub fn places(net: &[u8], table: &[u16], c: Counts, starts: &mut [u16]) -> usize
+    requires { ⌜ Tabled (now net) (now table) c ⌝ }
+    requires { ⌜ 112 ≤ length (now starts) ⌝ }
+    ensures { λ r. ⌜ Placing (netOf (now (net .entry)) (indexIn (now (table .entry)) c) []) (now (starts .exit)) r ⌝ }
+{
+    let total = c.wires + (c.boxes + c.inputs + c.outputs);
+    let mut at: usize = 0;
+    let mut j: usize = 0;
+    while j < total {
+        starts[j] = at as u16;
+        at += segment_size(net, table, c, j);
+        j += 1;
+    }
+    at
+}
