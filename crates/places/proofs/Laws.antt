@@ -17,10 +17,12 @@ use Rattle.model.proofs.Lookup.{wire-at, box-proc, input-proc, output-proc, wir
 use Rattle.model.proofs.Sizes.{state-most, sum-append}
 use Rattle.table.specs.declared.Counts.{Counts}
 use Rattle.table.specs.Table.{indexIn}
-use Rattle.queues.specs.Segments.{startOf}
+use Rattle.queues.specs.Segments.{startOf, wireStart, ownStart}
+use Rattle.queues.proofs.Segments.{start-first, start-second}
 use Rattle.lookup.specs.Tabled.{Tabled}
 use Rattle.lookup.proofs.Tabled.{valid, n-wires, n-boxes, n-inputs, n-outputs, bare-good, wire-entry, box-entry, output-entry}
-use Rattle.places.specs.Places.{sizesOf, Placed, Placing}
+use Rattle.places.specs.Places.{sizesOf, Placed, Placing, Spans, WireSpan, OwnSpan}
+use Rattle.places.specs.declared.Span.{Span}
 
 -- ── starts ───────────────────────────────────────────────────────────────────────────────────
 
@@ -125,3 +127,42 @@ so-far-next n p j v q l e = record { each = λ i h. by-place i h (ℕ-discrete i
     by-place : (i : ℕ) → i < j + 1 → Dec (i ≡ j) → getD (set p j v) i 0 ≡ startOf (sizesOf n) i
     by-place i h (yes z) = rw z (getD-set-same p j v 0 l ∙ e)
     by-place i h (no f) = getD-set-other p j i v 0 f ∙ q .each i (omega (arith, h, f))
+
+-- ── spans ────────────────────────────────────────────────────────────────────────────────────
+
+module _ (s t : List ℕ) (c : Counts) (h : Tabled s t c) where
+  abbrev m : Net
+  m = netOf s (indexIn t c) []
+
+  pub span-is : (p : List ℕ) (j a z : ℕ) → Placed m p → j < c .wires + (c .boxes + c .inputs + c .outputs) → a ≡ getD p j 0 → z ≡ getD (sizesOf m) j 0 → Spans m j (record { start = a; end = a + z })
+  span-is p j a z q l e f =
+      let i : j < length (sizesOf m) = omega (arith, sizes-length s t c h) in
+      let b : a ≡ startOf (sizesOf m) j = e ∙ q .at j i in
+      record {
+        start = b;
+        end = ap (λ (k : ℕ). a + k) f;
+        inside = omega (arith, b, f, start-next (sizesOf m) j i, start-most (sizesOf m) (j + 1), sizes-sum s t c h);
+      }
+
+  pub wire-span-is : (w j : ℕ) (r : Span) → w < c .wires → j ≡ w → Spans m j r → WireSpan m w r
+  unfolding wireStart sizesOf wire
+  wire-span-is w j r l e q =
+      let sizes = map wireSize (m .wires) in
+      let long : length sizes ≡ c .wires = length-map (m .wires) wireSize ∙ wires-n s t c h in
+      record {
+        start = q .start ∙ ap (startOf (sizes ++ map ownSize (m .procs))) e ∙ start-first sizes (map ownSize (m .procs)) w (omega (arith, long));
+        end = q .end ∙ ap (λ (k : ℕ). r .start + k) (ap (λ (i : ℕ). getD (sizes ++ map ownSize (m .procs)) i 0) e ∙ List·getD-append sizes (map ownSize (m .procs)) 0 w (omega (arith, long)) ∙ getD-map-lt wireSize (m .wires) w noWire 0 (omega (arith, wires-n s t c h)));
+        inside = q .inside;
+      }
+
+  pub own-span-is : (k j : ℕ) (r : Span) → k < c .boxes + c .inputs + c .outputs → j ≡ c .wires + k → Spans m j r → OwnSpan m k r
+  unfolding ownStart sizesOf wiresSize
+  own-span-is k j r l e q =
+      let sizes = map wireSize (m .wires) in
+      let long : c .wires ≡ length sizes = sym (length-map (m .wires) wireSize ∙ wires-n s t c h) in
+      let f : j ≡ length sizes + k = e ∙ ap (λ (i : ℕ). i + k) long in
+      record {
+        start = q .start ∙ ap (startOf (sizes ++ map ownSize (m .procs))) f ∙ start-second sizes (map ownSize (m .procs)) k;
+        end = q .end ∙ ap (λ (i : ℕ). r .start + i) (ap (λ (i : ℕ). getD (sizes ++ map ownSize (m .procs)) i 0) e ∙ (unfold sizesOf in own-size s t c h k l));
+        inside = q .inside;
+      }

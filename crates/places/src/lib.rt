@@ -9,7 +9,7 @@ ghost use lib.ListN.{length, getD};
 ghost use Rattle.model.specs.NetworkFile.{netOf};
 ghost use Rattle.table.specs.Table.{indexIn};
 ghost use Rattle.lookup.specs.Tabled.{Tabled};
-ghost use Rattle.places.specs.Places.{sizesOf, Placing};
+ghost use Rattle.places.specs.Places.{sizesOf, Placed, Placing, Spans, WireSpan, OwnSpan};
 
 // The bytes of segment j: wires first, then boxes, inputs and outputs.
 pub fn segment_size(net: &[u8], table: &[u16], c: Counts, j: usize) -> usize
@@ -47,4 +47,46 @@ pub fn places(net: &[u8], table: &[u16], c: Counts, starts: &mut [u16]) -> usize
         j += 1;
     }
     at
+}
+
+// The bytes of a segment in a state: from start up to end.
+pub struct Span {
+    pub start: usize,
+    pub end: usize,
+}
+
+// Where segment j lies.
+fn segment_span(net: &[u8], table: &[u16], c: Counts, starts: &[u16], j: usize) -> Span
+    requires { ⌜ Tabled (now net) (now table) c ⌝ }
+    requires { ⌜ Placed (netOf (now net) (indexIn (now table) c) []) (now starts) ⌝ }
+    requires { ⌜ j < c .wires + (c .boxes + c .inputs + c .outputs) ⌝ }
+    ensures { λ r. ⌜ Spans (netOf (now (net .entry)) (indexIn (now (table .entry)) c) []) j r ⌝ }
+{
+    let start = octets::entry(starts, j);
+    let size = segment_size(net, table, c, j);
+    Span {
+        start,
+        end: start + size,
+    }
+}
+
+// Where the bytes of a wire lie.
+pub fn wire_span(net: &[u8], table: &[u16], c: Counts, starts: &[u16], w: WireId) -> Span
+    requires { ⌜ Tabled (now net) (now table) c ⌝ }
+    requires { ⌜ Placed (netOf (now net) (indexIn (now table) c) []) (now starts) ⌝ }
+    requires { ⌜ w .0 < c .wires ⌝ }
+    ensures { λ r. ⌜ WireSpan (netOf (now (net .entry)) (indexIn (now (table .entry)) c) []) (w .0) r ⌝ }
+{
+    segment_span(net, table, c, starts, octets::wide(w.0))
+}
+
+// Where the bytes of a process lie.
+pub fn own_span(net: &[u8], table: &[u16], c: Counts, starts: &[u16], k: ProcessId) -> Span
+    requires { ⌜ Tabled (now net) (now table) c ⌝ }
+    requires { ⌜ Placed (netOf (now net) (indexIn (now table) c) []) (now starts) ⌝ }
+    requires { ⌜ k .0 < c .boxes + c .inputs + c .outputs ⌝ }
+    ensures { λ r. ⌜ OwnSpan (netOf (now (net .entry)) (indexIn (now (table .entry)) c) []) (k .0) r ⌝ }
+{
+    let wires = c.wires;
+    segment_span(net, table, c, starts, wires + octets::wide(k.0))
 }
