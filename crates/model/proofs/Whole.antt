@@ -223,7 +223,7 @@ proc-outs n (input w ts) g = λ k h. (let e : k ≡ 0 = omega (arith, h) in rw e
 proc-outs n (output w room) g = λ k h. absurd (omega (arith, h))
 
 -- exactly one reading and one writing port a wire
-one-each : (n : Net) → GoodNet n → ((w : ℕ) → w < length (n .wires) → portsFit (n .procs) w ≡ true) → OneEach n
+pub one-each : (n : Net) → GoodNet n → ((w : ℕ) → w < length (n .wires) → portsFit (n .procs) w ≡ true) → OneEach n
 unfolding portsFit
 one-each n g fit = record {
   readers = λ w. by-wire insOf (proc-ins n) w (decLt w (length (n .wires))) (λ h. (parts w h) .0);
@@ -290,7 +290,7 @@ module _ (s : List ℕ) (x : Index) (c : Checked s x) (tokens : List (List Token
   abbrev m : Net
   m = netOf s x tokens
 
-  ports-all : (w : ℕ) → w < length (m .wires) → portsFit (m .procs) w ≡ true
+  pub ports-all : (w : ℕ) → w < length (m .wires) → portsFit (m .procs) w ≡ true
   unfolding portsFit oddWire
   ports-all w h =
       let l : w < length (x .wires) = omega (arith, wires-length s x tokens) in

@@ -1,2 +1,3 @@
 -- Where each segment of a state begins.
 pub mod Places
+pub mod Standing
