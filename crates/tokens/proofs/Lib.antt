@@ -1,0 +1,2 @@
+-- Laws of tokens on parts.
+pub mod Laws
