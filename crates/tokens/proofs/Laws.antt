@@ -7,7 +7,7 @@ use mathlib.Core.List.{List, [], _∷_, _++_, map, append-assoc, append-nil}
 use native.Mathlib.Omega.{arith}
 use native.Mathlib.Nat.{add-sub-cancel-left}
 use native.Mathlib.Numerals.{add-one}
-use lib.Dec.{leb, eqb}
+use lib.Dec.{eqb}
 use lib.IntN.{ℤ}
 use lib.ListN.{length, getD, take, drop, set, length-drop, drop-of-length-le}
 use lib.Seq.{drop-cons, drop-drop, take-at, drop-at, take-all}
@@ -21,7 +21,7 @@ use Rattle.model.specs.Network.{Variable, box, fresh, varsOf}
 use Rattle.model.specs.NetworkFile.{tabulate, variableStart, variableOf, boxOf}
 use Rattle.model.specs.States.{tokenAt, readTokens, tokenFits, tokensFit, tokensIn, tokenField, allZero, roomFits, wireFits, valuesFit, valuesBytes, ownBytes}
 use Rattle.model.proofs.Decoded.{length-tabulate}
-use Rattle.octets.proofs.Laws.{value-drop, length-two}
+use Rattle.octets.proofs.Laws.{value-drop}
 use Rattle.queues.specs.Segments.{mid, putMid}
 use Rattle.queues.proofs.Segments.{part-put}
 use Rattle.queues.proofs.Queues.{length-values}

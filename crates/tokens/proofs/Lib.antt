@@ -1,2 +1,4 @@
 -- Laws of tokens on parts.
 pub mod Laws
+pub mod Lifts
+pub mod Turns
