@@ -2,3 +2,4 @@
 pub mod Laws
 pub mod Lifts
 pub mod Turns
+pub mod Groups
