@@ -1,0 +1,2 @@
+-- What the contracts of tokens on parts cite beside the model.
+pub mod Parts
