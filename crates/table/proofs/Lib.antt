@@ -4,3 +4,4 @@ pub mod Fields
 pub mod Walk
 pub mod Kept
 pub mod Sound
+pub mod Decoded

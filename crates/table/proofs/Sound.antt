@@ -3,9 +3,9 @@ use Prim.Native.Nat.{ℕ, _+_, _≤_, _<_}
 use mathlib.Core.Path.{_≡_, refl}
 use mathlib.Core.Bool.{Bool, true, _&&_}
 use mathlib.Core.List.{List}
-use lib.Dec.{ltb, leb}
+use lib.Dec.{ltb, leb, eqb}
 use lib.ListN.{length, getD}
-use borrow.Author.Tests.{ltb-true, leb-true}
+use borrow.Author.Tests.{ltb-true, leb-true, eqb-true}
 use native.Mathlib.Omega.{arith}
 use Rattle.table.proofs.Fields.{and-left, and-right}
 use Rattle.model.specs.declared.Field.the-variants.{At}
@@ -13,7 +13,8 @@ use Rattle.model.specs.Bytes.{twoAt, stretch}
 use Rattle.model.specs.Values.{inPrecision}
 use Rattle.model.specs.Expressions.{typeAt, expressionLimits}
 use Rattle.model.specs.Rules.{Rule, ruleRead, actionLimits}
-use Rattle.model.specs.NetworkFile.{fieldAt, Index, noFields, every, variableStart, bodyAt, wireLimits, boxLimits, ruleIn, ruleLimits, outputLimits, fieldFault, addField, good, fields}
+use Rattle.model.specs.NetworkFile.{fieldAt, Index, noFields, every, variableStart, bodyAt, wireLimits, boxLimits, ruleIn, ruleLimits, outputLimits, fieldFault, addField, good, fields, boxForm}
+use Rattle.shapes.specs.Shapes.{BoxFits}
 use Rattle.table.specs.declared.Counts.{Counts}
 use Rattle.table.specs.Table.{indexIn, Within, Room}
 use Rattle.table.specs.Sound.{Passes, WireAt, BoxAt, RuleAt, InputAt, OutputAt, Sound}
@@ -120,3 +121,30 @@ module _ (t : List ℕ) (c : Counts) (room : 656 ≤ length t) (w : Within c) wh
   roomy s b (a-rule l sh e h) = let k = rule-seen (indexIn t c .inbox) b (ruleRead (ruleIn sh b)) (h .1) in record { wires = λ z. absurd (omega arith); boxes = λ z. absurd (omega arith); rules = λ z. omega (arith, inbox-n); owned = λ z. w .owned (omega (arith, last-n)); inputs = λ z. absurd (omega arith); outputs = λ z. absurd (omega arith); least = omega arith; most = omega arith }
   roomy s b (an-input l h) = let k = ltb-true (length (indexIn t c .inputs)) 8 (h .1) in record { wires = λ z. absurd (omega arith); boxes = λ z. absurd (omega arith); rules = λ z. absurd (omega arith); owned = λ z. absurd (omega arith); inputs = λ z. omega (arith, inputs-n); outputs = λ z. absurd (omega arith); least = omega arith; most = omega arith }
   roomy s b (an-output h) = let k = output-seen (length (indexIn t c .outputs)) b (h .1) in record { wires = λ z. absurd (omega arith); boxes = λ z. absurd (omega arith); rules = λ z. absurd (omega arith); owned = λ z. absurd (omega arith); inputs = λ z. absurd (omega arith); outputs = λ z. omega (arith, outputs-n); least = omega arith; most = omega arith }
+
+-- the body of a box that passed has the length that its counts say, and these are 4 at most
+pub box-fits : (s : List ℕ) (wires seen o : ℕ) → BoxAt s wires seen o → BoxFits s o
+unfolding BoxAt boxForm boxLimits
+box-fits s wires seen o p =
+    let b = bodyAt s o in
+    let l = leb 3 (length b) in
+    let v = eqb (length b) (variableStart b (getD b 2 0)) in
+    let w = every (getD b 0 0 + getD b 1 0) (λ k. ltb (getD b (3 + k) 0) wires) in
+    let k = every (getD b 2 0) (λ j. leb (getD b (variableStart b j) 0) 4) in
+    let n = ltb seen 32 in
+    let i = leb (getD b 0 0) 4 in
+    let q = leb (getD b 1 0) 4 in
+    let m = leb (getD b 2 0) 4 in
+    let f = every (getD b 2 0) (λ j. inPrecision (typeAt b (variableStart b j))) in
+    let form = and-left (l && v) w (and-left (l && v && w) k (p .form)) in
+    let lim = and-left (n && i && q && m) f (p .limits) in
+    let lim3 = and-left (n && i && q) m lim in
+    record {
+      inside = p .inside;
+      body = record {
+        whole = eqb-true (length b) (variableStart b (getD b 2 0)) (and-right l v form);
+        ins = leb-true (getD b 0 0) 4 (and-right n i (and-left (n && i) q lim3));
+        outs = leb-true (getD b 1 0) 4 (and-right (n && i) q lim3);
+        vars = leb-true (getD b 2 0) 4 (and-right (n && i && q) m lim);
+      };
+    }

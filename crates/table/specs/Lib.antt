@@ -2,3 +2,4 @@
 pub mod Table
 pub mod RuleFault
 pub mod Sound
+pub mod Decoded

@@ -1,0 +1,3 @@
+-- Laws of the counts of ports.
+pub mod Counts
+pub mod Decoded

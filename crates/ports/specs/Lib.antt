@@ -1,0 +1,2 @@
+-- The ports of a network, counted.
+pub mod Ports
