@@ -21,7 +21,7 @@ use Rattle.model.proofs.Whole.{network-checked, net-good}
 use Rattle.table.specs.declared.Counts.{Counts}
 use Rattle.table.specs.Table.{region, indexIn, Within}
 use Rattle.table.proofs.Regions.{region-length, region-at}
-use Rattle.table.proofs.Sound.{wires-n, boxes-n, inputs-n, outputs-n}
+use Rattle.table.proofs.Lengths.{wires-n, boxes-n, inputs-n, outputs-n}
 use Rattle.lookup.specs.Entries.{ruleEntry, rulesIn}
 use Rattle.lookup.specs.Tabled.{Tabled}
 

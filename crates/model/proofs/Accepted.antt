@@ -14,10 +14,11 @@ use borrow.Author.Tests.{eqb-true, leb-true, ltb-true, ltb-false, lt-ltb, le-ltb
 use Rattle.model.specs.declared.Field.{Field}
 use Rattle.model.specs.declared.Field.the-variants.{At, Cut}
 use Rattle.model.specs.Bytes.{twoAt, stretch}
-use Rattle.model.specs.Expressions.{expressionLimits}
+use Rattle.model.specs.Values.{inPrecision}
+use Rattle.model.specs.Expressions.{typeAt, expressionLimits}
 use Rattle.model.specs.Rules.{Shape, Rule, ruleRead, actionLimits}
-use Rattle.model.proofs.Tests.{and₅}
-use Rattle.model.specs.NetworkFile.{Index, noFields, fieldAt, faultOf, wireForm, wireLimits, wireTypeFits, boxForm, boxLimits, boxTypes, ruleIn, ruleForm, ruleLimits, ruleTypes, inputForm, outputForm, outputLimits, bodyAt, wiresOf, shapeAt, rulesEnd, ruleAt, inOrder, fieldFault, addField, Verdict, good, refuse, Step, stop, go, onward, onField, step, walk, fields}
+use Rattle.model.proofs.Tests.{and₃, and₄, and₅}
+use Rattle.model.specs.NetworkFile.{Index, every, variableStart, noFields, fieldAt, faultOf, wireForm, wireLimits, wireTypeFits, boxForm, boxLimits, boxTypes, ruleIn, ruleForm, ruleLimits, ruleTypes, inputForm, outputForm, outputLimits, bodyAt, wiresOf, shapeAt, rulesEnd, ruleAt, inOrder, fieldFault, addField, Verdict, good, refuse, Step, stop, go, onward, onField, step, walk, fields}
 
 -- ── one induction for all facts ──────────────────────────────────────────────────────────────
 
@@ -377,11 +378,13 @@ module _ (s : List ℕ) (x : Index) (q : Valid s x) (at : ℕ) (inside : InFile 
 -- ── every field of an accepted file ──────────────────────────────────────────────────────────
 
 -- what a field that is there says of the file
-record Found (s : List ℕ) (tag start len at : ℕ) : Type 0 where
-  body : stretch s start len ≡ bodyAt s at
-  inside : InFile s at
+pub record Found (s : List ℕ) (tag start len at : ℕ) : Type 0 where
+  pub start-is : start ≡ at + 3
+  pub len-is : len ≡ twoAt s (at + 1)
+  pub body : stretch s start len ≡ bodyAt s at
+  pub inside : InFile s at
 
-field-found : (s : List ℕ) (tag start len at : ℕ) → fieldAt s at ≡ At tag start len → Found s tag start len at
+pub field-found : (s : List ℕ) (tag start len at : ℕ) → fieldAt s at ≡ At tag start len → Found s tag start len at
 unfolding fieldAt bodyAt
 field-found s tag start len at = by-head (ltb (length s) (at + 3)) (ltb (length s) (at + 3 + twoAt s (at + 1))) refl
   where
@@ -391,9 +394,23 @@ field-found s tag start len at = by-head (ltb (length s) (at + 3)) (ltb (length 
     by-head false false h e =
         let p : at + 3 ≡ start = cc in
         let l : twoAt s (at + 1) ≡ len = cc in
-        record { body = rw (← p, ← l); inside = record { whole = ltb-false _ _ h } }
+        record { start-is = sym p; len-is = sym l; body = rw (← p, ← l); inside = record { whole = ltb-false _ _ h } }
 
-rule-count : (seen : ℕ) (b : List ℕ) (r : Rule) → ruleLimits seen b r ≡ true → seen < 16
+-- a limit on how many fields of a kind there are
+pub wire-count : (seen : ℕ) (b : List ℕ) → wireLimits seen b ≡ true → seen < 64
+unfolding wireLimits
+wire-count seen b e = ltb-true seen 64 ((and₄ (ltb seen 64) (inPrecision (typeAt b 0)) (leb 1 (getD b 2 0)) (leb (getD b 2 0) 64) e) .0)
+
+pub box-count : (seen : ℕ) (b : List ℕ) → boxLimits seen b ≡ true → seen < 32
+unfolding boxLimits
+box-count seen b e =
+    ltb-true seen 32 ((and₅ (ltb seen 32) (leb (getD b 0 0) 4) (leb (getD b 1 0) 4) (leb (getD b 2 0) 4) (every (getD b 2 0) (λ j. inPrecision (typeAt b (variableStart b j)))) e) .0)
+
+pub output-count : (seen : ℕ) (b : List ℕ) → outputLimits seen b ≡ true → seen < 8
+unfolding outputLimits
+output-count seen b e = ltb-true seen 8 ((and₃ (ltb seen 8) (leb 1 (twoAt b 1)) (leb (twoAt b 1) 1000) e) .0)
+
+pub rule-count : (seen : ℕ) (b : List ℕ) (r : Rule) → ruleLimits seen b r ≡ true → seen < 16
 unfolding ruleLimits
 rule-count seen b r e =
     ltb-true seen 16 ((and₅ (ltb seen 16) (leb (length b) 512) (expressionLimits (r .guard)) (actionLimits (r .outs)) (actionLimits (r .sets)) e) .0)
@@ -406,12 +423,12 @@ module _ (s : List ℕ) where
   with-field x tag at q i (input p) = with-input s x q at i p
   with-field x tag at q i (output p) = with-output s x q at i p
 
-  valid-kept : (x : Index) (tag start len at : ℕ) → Valid s x → fieldAt s at ≡ At tag start len → fieldFault s x tag (stretch s start len) ≡ 0 → Valid s (addField x tag at)
+  pub valid-kept : (x : Index) (tag start len at : ℕ) → Valid s x → fieldAt s at ≡ At tag start len → fieldFault s x tag (stretch s start len) ≡ 0 → Valid s (addField x tag at)
   valid-kept x tag start len at q e z =
       let f = field-found s tag start len at e in
       with-field x tag at q (f .inside) (added s x (bodyAt s at) tag (rw (f .body) at z))
 
-  valid-none : Valid s noFields
+  pub valid-none : Valid s noFields
   unfolding noFields
   valid-none = record {
     early = λ g. (refl, refl, refl);

@@ -18,7 +18,7 @@ use Rattle.model.specs.Network.{Wire, Proc, box, input, output, Net, noW
 use Rattle.model.specs.NetworkFile.{Index, every, tabulate, bodyAt, wireLimits, boxLimits, outputLimits, variableStart, wiresOf, boxAt, inputAt, outputAt, netOf}
 use Rattle.model.specs.States.{wireSize, ownSize, sum, wiresSize, stateSize}
 use Rattle.model.proofs.Tests.{and₃, and₄, and₅}
-use Rattle.model.proofs.Accepted.{Valid, Passes}
+use Rattle.model.proofs.Accepted.{Valid, wire-count, box-count, output-count}
 use Rattle.model.proofs.Decoded.{Each, each-tabulate, length-tabulate, GoodWire, GoodProc, GoodNet, box-good}
 use Rattle.model.proofs.Lookup.{wires-length, procs-length, output-proc}
 
@@ -32,25 +32,16 @@ at-most k m f = by-order (decLt k m)
 
 module _ (s : List ℕ) (x : Index) (q : Valid s x) where
   pub few-wires : length (x .wires) ≤ 64
-  unfolding wireLimits
-  few-wires = at-most 64 (length (x .wires)) (λ h.
-      let b = bodyAt s (getD (x .wires) 64 0) in
-      omega (arith, ltb-true 64 64 ((and₄ (ltb 64 64) (inPrecision (typeAt b 0)) (leb 1 (getD b 2 0)) (leb (getD b 2 0) 64) ((q .wires 64 h) .passes .limits)) .0)))
+  few-wires = at-most 64 (length (x .wires)) (λ h. omega (arith, wire-count 64 _ ((q .wires 64 h) .passes .limits)))
 
   pub few-boxes : length (x .boxes) ≤ 32
-  unfolding boxLimits
-  few-boxes = at-most 32 (length (x .boxes)) (λ h.
-      let b = bodyAt s (getD (x .boxes) 32 0) in
-      omega (arith, ltb-true 32 32 ((and₅ (ltb 32 32) (leb (getD b 0 0) 4) (leb (getD b 1 0) 4) (leb (getD b 2 0) 4) (every (getD b 2 0) (λ j. inPrecision (typeAt b (variableStart b j)))) ((q .boxes 32 h) .passes .limits)) .0)))
+  few-boxes = at-most 32 (length (x .boxes)) (λ h. omega (arith, box-count 32 _ ((q .boxes 32 h) .passes .limits)))
 
   pub few-inputs : length (x .inputs) ≤ 8
   few-inputs = at-most 8 (length (x .inputs)) (λ h. omega (arith, ltb-true 8 8 ((q .inputs 8 h) .passes .limits)))
 
   pub few-outputs : length (x .outputs) ≤ 8
-  unfolding outputLimits
-  few-outputs = at-most 8 (length (x .outputs)) (λ h.
-      let b = bodyAt s (getD (x .outputs) 8 0) in
-      omega (arith, ltb-true 8 8 ((and₃ (ltb 8 8) (leb 1 (twoAt b 1)) (leb (twoAt b 1) 1000) ((q .outputs 8 h) .passes .limits)) .0)))
+  few-outputs = at-most 8 (length (x .outputs)) (λ h. omega (arith, output-count 8 _ ((q .outputs 8 h) .passes .limits)))
 
 -- ── sums ─────────────────────────────────────────────────────────────────────────────────────
 

@@ -13,9 +13,9 @@ use Rattle.shapes.specs.Shapes.{BoxFits}
 use Rattle.shapes.proofs.Laws.{length-map}
 use Rattle.table.specs.declared.Counts.{Counts}
 use Rattle.table.specs.Table.{region, indexIn, Within}
-use Rattle.table.specs.Sound.{Sound}
+use Rattle.model.proofs.Accepted.{Valid}
 use Rattle.table.proofs.Regions.{region-at, region-length}
-use Rattle.table.proofs.Sound.{box-fits, boxes-n}
+use Rattle.table.proofs.Lengths.{box-fits, boxes-n}
 use Rattle.ports.specs.Ports.{portsAt, boxPorts, endPort, touched, tallyOf, fitsIn, BoxesFit}
 use Rattle.ports.proofs.Counts.{tally-append, ports-more, counted, lowest-same}
 
@@ -86,9 +86,9 @@ module _ (s t : List ℕ) (c : Counts) (w : Within c) (room : 656 ≤ length t) 
       lowest-same (fitsIn rs ws) (portsFit (netOf s x [] .procs)) 0 (c .wires) 64 (λ k h. λ i. counts-of r0 rs _ _ _ a b (readers s x) k h i && counts-of w0 ws _ _ _ d e (writers s x) k h i) (omega arith)
       ∙ ap (lowestFrom (portsFit (netOf s x [] .procs)) 0) (sym n)
 
-  pub boxes-fit : Sound s (indexIn t c) → BoxesFit s t (c .boxes)
+  pub boxes-fit : Valid s (indexIn t c) → BoxesFit s t (c .boxes)
   unfolding indexIn
-  boxes-fit S = record { each = λ k h. let n = boxes-n t c room w in rw (← region-at 64 (c .boxes) t k h) (box-fits s _ k _ (S .box k (omega arith))) }
+  boxes-fit S = record { each = λ k h. let n = boxes-n t c room w in rw (← region-at 64 (c .boxes) t k h) (box-fits s _ k _ (S .boxes k (omega arith))) }
 
 -- the ports of one box
 module _ (s b r : List ℕ) (at i n : ℕ) (outs : Bool) (e : b ≡ bodyAt s at) (f : i ≡ getD b 0 0) where

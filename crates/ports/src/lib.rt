@@ -7,7 +7,7 @@ ghost use lib.ListN.{length};
 ghost use Rattle.model.specs.NetworkFile.{lowestFrom, oddWire, netOf};
 ghost use Rattle.shapes.specs.Shapes.{BoxFits};
 ghost use Rattle.table.specs.Table.{region, indexIn, Within};
-ghost use Rattle.table.specs.Sound.{Sound};
+ghost use Rattle.model.proofs.Accepted.{Valid};
 ghost use Rattle.ports.specs.Ports.{portsAt, boxPorts, endPort, touched, tallyOf, fitsIn, BoxesFit};
 
 // One port more on wire w; a count stops at 2.
@@ -101,7 +101,7 @@ fn lowest_bad(reads: &[u8], writes: &[u8], n: usize) -> usize
 pub fn odd_wire(net: &[u8], tab: &[u16], c: Counts) -> usize
     requires { ⌜ Within c ⌝ }
     requires { ⌜ 656 ≤ length (now tab) ⌝ }
-    requires { ⌜ Sound (now net) (indexIn (now tab) c) ⌝ }
+    requires { ⌜ Valid (now net) (indexIn (now tab) c) ⌝ }
     ensures { λ r. ⌜ r ≡ oddWire (netOf (now (net .entry)) (indexIn (now (tab .entry)) c) []) ⌝ }
 {
     let mut reads = [0u8; 64];

@@ -1,7 +1,5 @@
--- Laws of the table, the fields and the walk over them; what holds of a good file.
+-- Laws of the table and of the walk that fills it.
 pub mod Regions
 pub mod Fields
 pub mod Walk
-pub mod Kept
-pub mod Sound
-pub mod Decoded
+pub mod Lengths

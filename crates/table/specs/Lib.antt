@@ -1,5 +1,3 @@
--- The table, a rule's fault, and what holds of the fields of a good file.
+-- The table, and a rule's fault.
 pub mod Table
 pub mod RuleFault
-pub mod Sound
-pub mod Decoded
