@@ -12,7 +12,7 @@ use borrow.Author.Tests.{le-leb, lt-leb, le-ltb, eq-eqb, ne-eqb, leb-true, leb-f
 use Rattle.model.specs.Expressions.{Exp, Read, bad, got, after, readMany, headSize, operands, headFits, build, provided, readExp, expression}
 use Rattle.expressions.specs.declared.Form.{Form}
 use Rattle.expressions.specs.declared.Form.the-variants.{Bytes, Malformed}
-use Rattle.expressions.specs.Reading.{sizeRead}
+use Rattle.expressions.specs.Reading.{sizeRead, endFrom}
 
 -- ── the head ─────────────────────────────────────────────────────────────────────────────────
 
@@ -85,11 +85,6 @@ unfolding provided
 some-exp s e = open-exp s ∙ rw e
 
 -- ── size ─────────────────────────────────────────────────────────────────────────────────────
-
--- the offset after what was read at an offset
-unfoldable pub endFrom : {A : Type 0} → ℕ → Read A → Form
-endFrom at bad = Malformed
-endFrom at (got a n) = Bytes (at + n)
 
 unfoldable pub onward : Form → (ℕ → Form) → Form
 onward Malformed f = Malformed
@@ -167,13 +162,13 @@ module _ (s : List ℕ) where
   unfolding ends endFrom readMany
   ends-none at = ap Bytes (omega arith)
 
-  size-go : (r : Read Exp) → onward (endFrom 0 r) (λ to. ends 0 to s) ≡ sizeRead r
-  unfolding endFrom onward sizeRead
-  size-go bad = refl
-  size-go (got e n) = ends-none (0 + n) ∙ ap Bytes (omega arith)
+  whole-go : (at : ℕ) (r : Read Exp) → onward (endFrom at r) (λ to. ends 0 to s) ≡ endFrom at r
+  unfolding endFrom onward
+  whole-go at bad = refl
+  whole-go at (got e n) = ends-none (at + n)
 
-  pub ends-whole : ends 1 0 s ≡ sizeRead (expression s)
-  ends-whole = ends-one 0 0 ∙ size-go (expression s)
+  pub ends-whole : (at : ℕ) → ends 1 at s ≡ endFrom at (expression (drop at s))
+  ends-whole at = ends-one 0 at ∙ whole-go at (expression (drop at s))
 
   pub turn : (p at c : ℕ) → 0 < p → headFits (drop at s) ≡ true → getD (drop at s) 0 0 ≡ c → ends p at s ≡ ends (p - 1 + operands c) (at + headSize c) s
   turn zero at c l e f = absurd (omega arith)
@@ -188,3 +183,8 @@ module _ (s : List ℕ) where
   pub done : (p at : ℕ) → p ≤ 0 → ends p at s ≡ Bytes at
   done zero at l = ends-none at
   done (suc p) at l = absurd (omega arith)
+
+pub size-end : (r : Read Exp) → endFrom 0 r ≡ sizeRead r
+unfolding endFrom sizeRead
+size-end bad = refl
+size-end (got e n) = ap Bytes (omega arith)

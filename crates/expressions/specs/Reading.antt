@@ -14,6 +14,11 @@ unfoldable pub sizeRead : Read Exp → Form  -- its bytes
 sizeRead bad = Malformed
 sizeRead (got e n) = Bytes n
 
+-- the offset after what was read at an offset
+unfoldable pub endFrom : {A : Type 0} → ℕ → Read A → Form
+endFrom at bad = Malformed
+endFrom at (got a n) = Bytes (at + n)
+
 -- a literal and a cast name a precision
 unfoldable pub preciseHead : List ℕ → Bool
 preciseHead s = let c = getD s 0 0 in not (eqb c 0 || eqb c 3) || inPrecision (typeAt s 1)

@@ -6,7 +6,7 @@ ghost use lib.ListN.{length, getD, drop};
 ghost use lib.Signed.{mag};
 ghost use Rattle.model.specs.Bytes.{valueAt};
 ghost use Rattle.model.specs.Expressions.{headSize, operands as operandsOf, knownCode, headFits, typeAt, expression};
-ghost use Rattle.expressions.specs.Reading.{sizeRead, preciseHead, limitsAt, limitsRead};
+ghost use Rattle.expressions.specs.Reading.{sizeRead, endFrom, preciseHead, limitsAt, limitsRead};
 
 // The bytes that an expression takes, or a fault of form.
 pub enum Form {
@@ -84,11 +84,12 @@ pub fn type_at(s: &[u8], at: usize) -> Ty
     }
 }
 
-// How many bytes the expression at the start of s takes: `pending` expressions are still to come.
-pub fn size(s: &[u8]) -> Form
-    ensures { λ r. ⌜ r ≡ sizeRead (expression (now (s .entry))) ⌝ }
+// The offset after the expression at an offset: `pending` expressions are still to come.
+pub fn end_of(s: &[u8], from: usize) -> Form
+    requires { ⌜ from ≤ length (now s) ⌝ }
+    ensures { λ r. ⌜ r ≡ endFrom from (expression (drop from (now (s .entry)))) ⌝ }
 {
-    let mut at: usize = 0;
+    let mut at: usize = from;
     let mut pending: usize = 1;
     while 0 < pending {
         if !head_fits(s, at) {
@@ -100,6 +101,13 @@ pub fn size(s: &[u8]) -> Form
         at = at + head;
     }
     Form::Bytes(at)
+}
+
+// How many bytes the expression at the start of s takes.
+pub fn size(s: &[u8]) -> Form
+    ensures { λ r. ⌜ r ≡ sizeRead (expression (now (s .entry))) ⌝ }
+{
+    end_of(s, 0)
 }
 
 // The precision that a head names, if it names one, is 1 to 30.

@@ -29,20 +29,20 @@ ill-there m sc at r {e} {n} x y = go (typeOf sc e) refl (rw x at y)
 
 -- an operand that has a type: which, where it ends, and what follows
 module _ {s : List ℕ} {d k at end m : ℕ} {es : List Exp} {t : Ty} (sc : Scope) (x : Step s d k at es end) (y : typedAt sc at (expression (drop at s)) ≡ typing.Typed t m) where
-  its-type : typeOf sc (x .e) ≡ typed t
+  pub its-type : typeOf sc (x .e) ≡ typed t
   its-type = typed-there sc at (expression (drop at s)) (x .read) y .0
 
-  its-end : at + sizeOf (x .e) ≡ m
+  pub its-end : at + sizeOf (x .e) ≡ m
   its-end = rw (size-is (drop at s) (x .read)) (typed-there sc at (expression (drop at s)) (x .read) y .1)
 
-  onward : Ahead s d (k - 1) m (x .rest) end
+  pub onward : Ahead s d (k - 1) m (x .rest) end
   onward = subst (λ (i : ℕ). Ahead s d (k - 1) i (x .rest) end) (typed-there sc at (expression (drop at s)) (x .read) y .1) (x .ahead)
 
 module _ (s : List ℕ) (at d c : ℕ) (h : c ≡ getD s at 0) (l : at ≤ length s) (g : fitsAt d (expression (drop at s)) ≡ true) where
-  there : getD (drop at s) 0 0 ≡ c
+  pub there : getD (drop at s) 0 0 ≡ c
   there = head-at at s ∙ sym h
 
-  all : Parts s at d c
+  pub all : Parts s at d c
   all = parts s at c there d g
 
   pub deep : 1 ≤ d
@@ -57,7 +57,7 @@ module _ (s : List ℕ) (at d c : ℕ) (h : c ≡ getD s at 0) (l : at ≤ lengt
   pub head-inside : at + headSize c ≤ length s
   head-inside = fits-whole s at c h (all .whole) l
 
-  abbrev here : ℕ
+  abbrev pub here : ℕ
   here = at + headSize c
 
   -- the answer of the whole from the type of what is built
@@ -69,7 +69,7 @@ module _ (s : List ℕ) (at d c : ℕ) (h : c ≡ getD s at 0) (l : at ≤ lengt
   resized x n e = let w : all .size ≡ n - at = omega arith in (omega arith, ap (λ (i : ℕ). placed at i x) w)
 
   module _ (o : 0 < operands c) where
-    first : Step s (d - 1) (operands c) here (all .es) (at + all .size)
+    pub first : Step s (d - 1) (operands c) here (all .es) (at + all .size)
     first = step s (d - 1) (operands c) here o (record { run = all .run; shallower = all .shallower; inside = head-inside })
 
     pub first-fits : fitsAt (d - 1) (expression (drop here s)) ≡ true
@@ -92,13 +92,13 @@ module _ (s : List ℕ) (at d c : ℕ) (h : c ≡ getD s at 0) (l : at ≤ lengt
             (w .0, answer sc (first .e ∷ []) (first .these ∙ ap (λ (i : List Exp). first .e ∷ i) (r .0)) (type-one sc (drop at s) c there (first .e) e (its-type sc first a)) ∙ w .1)
 
         module _ (o2 : 0 < operands c - 1) where
-          second : Step s (d - 1) (operands c - 1) n (first .rest) (at + all .size)
+          pub second : Step s (d - 1) (operands c - 1) n (first .rest) (at + all .size)
           second = step s (d - 1) (operands c - 1) n o2 (onward sc first a)
 
           pub second-fits : (fitsAt (d - 1) (expression (drop n s)) ≡ true) × (n ≤ length s)
           second-fits = (second .fits, onward sc first a .inside)
 
-          two-are : all .es ≡ first .e ∷ second .e ∷ second .rest
+          pub two-are : all .es ≡ first .e ∷ second .e ∷ second .rest
           two-are = first .these ∙ ap (λ (i : List Exp). first .e ∷ i) (second .these)
 
           pub exit-second : (q : ℕ) → typedAt sc n (expression (drop n s)) ≡ typing.Ill q → typedAt sc at (expression (drop at s)) ≡ typing.Ill q
@@ -117,7 +117,7 @@ module _ (s : List ℕ) (at d c : ℕ) (h : c ≡ getD s at 0) (l : at ≤ lengt
                 (w .0, answer sc (first .e ∷ second .e ∷ []) (two-are ∙ ap (λ (i : List Exp). first .e ∷ second .e ∷ i) (r .0)) (type-two sc (drop at s) c there (first .e) (second .e) e (its-type sc first a) (its-type sc second b)) ∙ w .1)
 
             module _ (o3 : operands c ≡ 3) where
-              third : Step s (d - 1) (operands c - 1 - 1) m (second .rest) (at + all .size)
+              pub third : Step s (d - 1) (operands c - 1 - 1) m (second .rest) (at + all .size)
               third = step s (d - 1) (operands c - 1 - 1) m (omega arith) (onward sc second b)
 
               pub third-fits : (fitsAt (d - 1) (expression (drop m s)) ≡ true) × (m ≤ length s)
@@ -126,7 +126,7 @@ module _ (s : List ℕ) (at d c : ℕ) (h : c ≡ getD s at 0) (l : at ≤ lengt
               last-is : third .rest ≡ []
               last-is = run-end (third .ahead .run) (omega arith) .0
 
-              three-are : all .es ≡ first .e ∷ second .e ∷ third .e ∷ []
+              pub three-are : all .es ≡ first .e ∷ second .e ∷ third .e ∷ []
               three-are = two-are ∙ ap (λ (i : List Exp). first .e ∷ second .e ∷ i) (third .these ∙ ap (λ (i : List Exp). third .e ∷ i) last-is)
 
               pub exit-third : (q : ℕ) → typedAt sc m (expression (drop m s)) ≡ typing.Ill q → typedAt sc at (expression (drop at s)) ≡ typing.Ill q

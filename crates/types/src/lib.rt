@@ -27,7 +27,7 @@ fn judge(ok: bool, t: Ty, at: usize, next: usize) -> Typing
 }
 
 // The type that entry i of the inputs (from 0) or of the variables (from 8) has; none from 4 on.
-fn named(types: &[u8; 16], from: usize, i: u8) -> Ty
+pub fn named(types: &[u8; 16], from: usize, i: u8) -> Ty
     requires { ⌜ from ≤ 8 ⌝ }
     ensures { λ r. ⌜ r ≡ cond (ltb i 4) (typeAt (now (types .entry)) (from + 2 * i)) noType ⌝ }
 {

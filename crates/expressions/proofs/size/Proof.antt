@@ -1,92 +1,15 @@
-use mathlib.Core.Path.{_≡_, sym, _∙_}
-use Prim.Native.Nat.{_+_, _*_, _-_, _≤_}
-use native.Mathlib.Omega.{arith}
 use borrow.Author.Needs.{needs}
-use borrow.Author.Tests.{not-true, not-false}
-use lib.ListN.{length}
+use mathlib.Core.Path.{_∙_}
 use Rattle.model.specs.Expressions.{expression}
-use Rattle.expressions.specs.Reading.{sizeRead}
-use Rattle.expressions.proofs.Reading.{ends, ends-whole, turn, halt, done, head-pos}
-use Rattle.expressions.proofs.Heads.{head-at, fits-whole}
+use Rattle.expressions.proofs.Reading.{size-end}
 use Rattle.expressions.proofs.size.Statement.{statement}
 use Rattle.expressions.proofs.size.Tie as tie
 
-abbrev Inv-loop : tie.InvT-loop
-Inv-loop s at₀ pending₀ at pending = (at ≤ length s) × ((pending ≤ 1 + 2 * at) × (ends pending at s ≡ sizeRead (expression s)))
+end-of-requires : tie.Need-end-of-requires
+end-of-requires c κs = search needs
 
-abbrev μ-loop : tie.MeasureT-loop
-μ-loop s at₀ pending₀ at pending = length s - at
-
-loop-holds : tie.Need-loop-holds Inv-loop μ-loop
-loop-holds c = (omega arith, (omega arith, ends-whole (c .before .args .s .now)))
-
-head-fits-requires : tie.Need-head-fits-requires Inv-loop μ-loop
-head-fits-requires c κs = search needs
-
--- the head that fits ends within the bytes, and is not empty
-advance : (c : tie.After-operands Inv-loop μ-loop) → c .before .before .before .before .before .before .loop .at + c .before .head-size .result ≤ length (c .before .before .before .before .before .before .before .before .args .s .now)
-advance c =
-    let i = c .before .before .before .before .before .before .loop in
-    let e = sym (c .before .before .before .before .head-fits .ensures) ∙ not-false _ (c .before .before .before .if1 .left) in
-    rw (c .before .head-size .ensures .0) (fits-whole (c .before .before .before .before .before .before .before .before .args .s .now) (i .at) _ (c .before .before .byte-at .ensures) e (i .inv .0))
-
-moves : (c : tie.After-operands Inv-loop μ-loop) → 1 ≤ c .before .head-size .result
-moves c = rw (c .before .head-size .ensures .0) (head-pos (c .before .before .byte-at .result))
-
-returns : tie.Need-returns Inv-loop μ-loop
-returns c = let i = c .before .before .before .loop in sym (halt (c .before .before .before .before .before .args .s .now) (i .pending) (i .at) (c .before .before .loop-test .taken) (sym (c .before .head-fits .ensures) ∙ not-true _ (c .if1 .taken))) ∙ i .inv .1 .1
-
-byte-at-requires : tie.Need-byte-at-requires Inv-loop μ-loop
-byte-at-requires c κs = search needs
-
-sub-pending : tie.Need-sub-pending Inv-loop μ-loop
-sub-pending c = search needs
-
-operands-requires : tie.Need-operands-requires Inv-loop μ-loop
-operands-requires c κs = search needs
-
-add-pending : tie.Need-add-pending Inv-loop μ-loop
-add-pending c = record { fits = omega (arith, advance c, moves c, c .before .before .before .before .before .before .before .before .good .0 .0) }
-
-head-size-requires : tie.Need-head-size-requires Inv-loop μ-loop
-head-size-requires c κs = search needs
-
-add-at : tie.Need-add-at Inv-loop μ-loop
-add-at c = record { fits = omega (arith, advance c, c .before .before .before .before .before .before .before .before .good .0 .0) }
-
-loop-less : tie.Need-loop-less Inv-loop μ-loop
-loop-less c = omega (arith, advance c, moves c)
-
-loop-again : tie.Need-loop-again Inv-loop μ-loop
-loop-again c =
-    let i = c .before .before .before .before .before .before .loop in
-    let u = c .before .before .before .before .before .before .before .before .args .s .now in
-    let e = sym (c .before .before .before .before .head-fits .ensures) ∙ not-false _ (c .before .before .before .if1 .left) in (
-      advance c,
-      (
-        omega (arith, moves c),
-        rw (c .operands .ensures .0, c .before .head-size .ensures .0) (sym (turn u (i .pending) (i .at) (c .before .before .byte-at .result) (c .before .before .before .before .before .loop-test .taken) e (head-at (i .at) u ∙ sym (c .before .before .byte-at .ensures))) ∙ i .inv .1 .1),
-      ),
-    )
-
-returns-2 : tie.Need-returns-2 Inv-loop μ-loop
-returns-2 c = let i = c .before .loop in sym (done (c .before .before .before .args .s .now) (i .pending) (i .at) (c .loop-test .left)) ∙ i .inv .1 .1
+returns : tie.Need-returns
+returns c = c .end-of .ensures ∙ size-end (expression (c .before .before .args .s .now))
 
 pub size-spec : {M : Type 1} → statement M
-size-spec =
-    tie.close
-    (tie.spec
-    Inv-loop
-    μ-loop
-    loop-holds
-    head-fits-requires
-    returns
-    byte-at-requires
-    head-size-requires
-    sub-pending
-    operands-requires
-    add-pending
-    add-at
-    loop-less
-    loop-again
-    returns-2)
+size-spec = tie.close (tie.spec end-of-requires returns)

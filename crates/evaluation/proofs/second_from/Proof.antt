@@ -1,0 +1,17 @@
+use borrow.Author.Needs.{needs}
+use mathlib.Core.Path.{_∙_}
+use Rattle.values.proofs.Machine.{zero-bits}
+use Rattle.evaluation.proofs.second_from.Statement.{statement}
+use Rattle.evaluation.proofs.second_from.Tie as tie
+
+skip-requires : tie.Need-skip-requires
+skip-requires c κs = search needs
+
+returns : tie.Need-returns
+returns c = let s = c .before .before .before in c .skip .ensures ∙ rw (rw (zero-bits (s .args .x) (s .fits .x)) at (c .before .if1 .taken))
+
+returns-2 : tie.Need-returns-2
+returns-2 c = let s = c .before .before in rw (rw (zero-bits (s .args .x) (s .fits .x)) at (c .if1 .left))
+
+pub second-from-spec : {M : Type 1} → statement M
+second-from-spec = tie.close (tie.spec skip-requires returns returns-2)

@@ -1,0 +1,2 @@
+-- What the contracts of evaluation cite beside the model.
+pub mod Envs
