@@ -15,7 +15,8 @@ use Rattle.model.specs.declared.Outcome.{Outcome}
 use Rattle.model.specs.declared.Outcome.the-variants.{Value, Fault}
 use Rattle.model.specs.Values.{isPlain, inPrecision, within, noType, isTrue}
 use Rattle.model.specs.Expressions.{Exp, literal, matched, variable, cast, one, two, if, precise, Typed, typed, ill, judged, operandAt, typeOf, Env, then, valueOf}
-use Rattle.values.proofs.Wrapping.{and-left, and-right, within-mag, pow-30}
+use Rattle.model.proofs.Tests.{and-left, and-right}
+use Rattle.model.proofs.Wrapping.{within-mag, pow-30}
 use Rattle.values.proofs.Results.{Small, Sound, sound-cond, wrap-small, apply-sound, apply-one-sound}
 use Rattle.types.specs.Scopes.{scopeIn}
 use Rattle.evaluation.specs.Envs.{envIn, EnvFits}

@@ -14,7 +14,7 @@ use Rattle.model.specs.declared.Outcome.{Outcome}
 use Rattle.model.specs.declared.Outcome.the-variants.{Value, Fault}
 use Rattle.model.specs.Values.{inPrecision, wrap, eqZ, isTrue, apply, applyOne}
 use Rattle.model.specs.Expressions.{Exp, Read, bad, got, headSize, operands, typeAt, build, expression, depthOf, precise, Scope, Typed, typed, ill, typeOf, Env, then, valueOf}
-use Rattle.values.proofs.Wrapping.{and-left, and-right}
+use Rattle.model.proofs.Tests.{and-left, and-right}
 use Rattle.values.proofs.Results.{Small, Sound}
 use Rattle.expressions.specs.Reading.{preciseHead, shallow, fitsAt}
 use Rattle.expressions.proofs.Heads.{precise-named}

@@ -10,7 +10,7 @@ use lib.ListN.{getD, drop, length}
 use lib.Seq.{drop-drop}
 use borrow.Author.Tests.{le-leb, lt-leb, eqb-true, eqb-false, ne-eqb, eq-eqb}
 use Rattle.model.specs.Expressions.{Exp, Read, bad, got, after, readMany, headSize, operands, headFits, provided, build, readExp, expression, depthOf, sizeOf}
-use Rattle.values.proofs.Wrapping.{and-left, and-right}
+use Rattle.model.proofs.Tests.{and-left, and-right}
 use Rattle.expressions.specs.Reading.{preciseHead, shallow, fitsAt}
 use Rattle.expressions.proofs.Reading.{no-exp, some-exp, behind}
 use Rattle.expressions.proofs.Depths.{allShallow, built, All, sized, depth-pos, two-left, four-up}

@@ -13,7 +13,7 @@ use Rattle.model.specs.declared.Ty.{Ty}
 use Rattle.model.specs.Bytes.{valueAt, fourAt}
 use Rattle.model.specs.Values.{isBool, isNumber, sameType, isPlain, within, noType}
 use Rattle.model.specs.Expressions.{Exp, Read, bad, got, after, readMany, headSize, operands, headFits, typeAt, build, expression, Scope, Typed, typed, ill, judged, operandAt, oneType, twoType, typeOf, sizeOf}
-use Rattle.values.proofs.Wrapping.{and-left, and-right}
+use Rattle.model.proofs.Tests.{and-left, and-right}
 use Rattle.expressions.specs.Reading.{fitsAt, shallow, preciseHead}
 use Rattle.expressions.proofs.Reading.{some-exp}
 use Rattle.expressions.proofs.Heads.{head-at, fits-whole}

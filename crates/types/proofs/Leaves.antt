@@ -14,7 +14,7 @@ use Rattle.model.specs.declared.Ty.{Ty}
 use Rattle.model.specs.Bytes.{valueAt, fourAt}
 use Rattle.model.specs.Values.{isPlain, within, noType, inPrecision}
 use Rattle.model.specs.Expressions.{Exp, Read, bad, got, after, readMany, headSize, operands, headFits, typeAt, build, expression, Scope, Typed, typed, ill, judged, typeOf, expressionLimits}
-use Rattle.values.proofs.Wrapping.{and-left, and-right}
+use Rattle.model.proofs.Tests.{and-left, and-right}
 use Rattle.expressions.specs.Reading.{preciseHead, shallow, fitsAt, limitsRead}
 use Rattle.expressions.proofs.Reading.{some-exp}
 use Rattle.expressions.proofs.Heads.{head-at, precise-named}

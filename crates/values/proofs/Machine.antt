@@ -16,7 +16,7 @@ use mir.Facts.{toZ-pos, toZ-ofZ}
 use borrow.Author.Tests.{lt-ltb, le-ltb, ltb-true, eq-eqb, ne-eqb, eqb-true, eqb-false}
 use Rattle.model.specs.Bytes.{modZ}
 use Rattle.model.specs.Values.{eqZ}
-use Rattle.values.proofs.Wrapping.{modZ-lt}
+use Rattle.model.proofs.Wrapping.{modZ-lt}
 
 -- ── powers ───────────────────────────────────────────────────────────────────────────────────
 

@@ -15,7 +15,7 @@ use Rattle.model.specs.declared.Outcome.{Outcome}
 use Rattle.model.specs.declared.Outcome.the-variants.{Value, Fault}
 use Rattle.model.specs.Bytes.{modZ}
 use Rattle.model.specs.Values.{bool, within, pattern, readBack, wrap, truth, eqZ, isTrue, arithmetic, bitwise, compare, logic, apply, applyOne}
-use Rattle.values.proofs.Wrapping.{pow-30, read-mag, read-within, wrap-mag, wrap-within, pattern-lt}
+use Rattle.model.proofs.Wrapping.{pow-30, read-mag, read-within, wrap-mag, wrap-within, pattern-lt}
 
 -- a type of precision 1 to 30, and a value that 32 bits hold
 pub record Small (t : Ty) (z : ℤ) : Type 0 where

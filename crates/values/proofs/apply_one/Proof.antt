@@ -9,7 +9,7 @@ use lib.Pow.{ones-sub-lt, le-ones}
 use mir.Facts.{toZ-ofZ}
 use Rattle.model.specs.Values.{applyOne, bool, isTrue, eqZ}
 use Rattle.values.proofs.Machine.{back, zero-bits}
-use Rattle.values.proofs.Wrapping.{pattern-lt}
+use Rattle.model.proofs.Wrapping.{pattern-lt}
 use Rattle.values.proofs.apply_one.Statement.{statement}
 use Rattle.values.proofs.apply_one.Tie as tie
 

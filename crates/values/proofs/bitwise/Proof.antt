@@ -12,7 +12,7 @@ use Rattle.model.specs.declared.Ty.{Ty}
 use Rattle.model.specs.Bytes.{modZ}
 use Rattle.model.specs.Values.{pattern, bitwise}
 use Rattle.values.proofs.Machine.{back, shift-need, shift-fits}
-use Rattle.values.proofs.Wrapping.{pattern-lt, modZ-lt}
+use Rattle.model.proofs.Wrapping.{pattern-lt, modZ-lt}
 use Rattle.values.proofs.bitwise.Statement.{statement}
 use Rattle.values.proofs.bitwise.Tie as tie
 

@@ -3,7 +3,7 @@ use native.Mathlib.Omega.{arith}
 use mir.Facts.{toZ-ofZ}
 use Rattle.model.specs.Values.{wrap}
 use Rattle.values.proofs.Machine.{back}
-use Rattle.values.proofs.Wrapping.{pattern-lt}
+use Rattle.model.proofs.Wrapping.{pattern-lt}
 use Rattle.values.proofs.wrap.Statement.{statement}
 use Rattle.values.proofs.wrap.Tie as tie
 
