@@ -14,20 +14,6 @@ pub enum Form {
     Malformed,
 }
 
-// A byte as a length or an index.
-pub fn wide(x: u8) -> usize
-    ensures { λ r. ⌜ (r ≡ x) × (r < 256) ⌝ }
-{
-    x as usize
-}
-
-// The byte at i, 0 past the end.
-pub fn byte_at(s: &[u8], i: usize) -> u8
-    ensures { λ r. ⌜ r ≡ getD (now (s .entry)) i 0 ⌝ }
-{
-    if i < s.len() { s[i] } else { 0 }
-}
-
 // The bytes before the operands.
 pub fn head_size(c: u8) -> usize
     ensures { λ r. ⌜ (r ≡ headSize c) × (r ≤ 7) ⌝ }
@@ -74,7 +60,7 @@ pub fn head_fits(s: &[u8], at: usize) -> bool
     if left == 0 {
         return false;
     }
-    let c = byte_at(s, at);
+    let c = octets::byte_at(s, at);
     if !known_code(c) {
         return false;
     }
@@ -82,7 +68,7 @@ pub fn head_fits(s: &[u8], at: usize) -> bool
         return false;
     }
     if (c == 0) | (c == 3) {
-        return byte_at(s, at + 1) <= 4;
+        return octets::byte_at(s, at + 1) <= 4;
     }
     true
 }
@@ -93,8 +79,8 @@ pub fn type_at(s: &[u8], at: usize) -> Ty
     ensures { λ r. ⌜ r ≡ typeAt (now (s .entry)) at ⌝ }
 {
     Ty {
-        kind: byte_at(s, at),
-        p: byte_at(s, at + 1),
+        kind: octets::byte_at(s, at),
+        p: octets::byte_at(s, at + 1),
     }
 }
 
@@ -108,7 +94,7 @@ pub fn size(s: &[u8]) -> Form
         if !head_fits(s, at) {
             return Form::Malformed;
         }
-        let c = byte_at(s, at);
+        let c = octets::byte_at(s, at);
         let head = head_size(c);
         pending = pending - 1 + operands(c);
         at = at + head;
@@ -121,7 +107,7 @@ fn precise_head(s: &[u8], at: usize) -> bool
     requires { ⌜ at < length (now s) ⌝ }
     ensures { λ r. ⌜ r ≡ preciseHead (drop at (now (s .entry))) ⌝ }
 {
-    let c = byte_at(s, at);
+    let c = octets::byte_at(s, at);
     if (c == 0) | (c == 3) {
         return values::in_precision(type_at(s, at + 1));
     }
@@ -142,7 +128,7 @@ fn limits_at(s: &[u8], at: usize, depth: usize) -> usize
     if !precise_head(s, at) {
         return 0;
     }
-    let c = byte_at(s, at);
+    let c = octets::byte_at(s, at);
     let mut next = at + head_size(c);
     let mut left = operands(c);
     while 0 < left {

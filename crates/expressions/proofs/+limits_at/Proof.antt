@@ -15,7 +15,7 @@ use borrow.Fn.PlainCycle.{Measures, is, falls, and}
 use Rattle.expressions.proofs.limits_at.Reads as limits-at
 use Rattle.expressions.proofs.limits_at.Kinds as limits-at-kinds
 use Rattle.expressions.proofs.+limits_at.Lts-limits_at as lts
-use Rattle.expressions.proofs.byte_at.Reads as byte-at-reads
+use Rattle.octets.proofs.byte_at.Reads as byte-at-reads
 use Rattle.expressions.proofs.head_fits.Reads as head-fits-reads
 use Rattle.expressions.proofs.head_size.Reads as head-size-reads
 use Rattle.expressions.proofs.operands.Reads as operands-reads
