@@ -141,3 +141,49 @@ laid a b p e =
 -- the rule that stands there
 unfoldable pub ruleIs : {a : Arity} {b : List ℕ} {p : Parts} → Laid a b p → Rule
 ruleIs x = record { ins = x .ins .thing; vars = x .vars .thing; guard = x .guard .thing; outs = x .outs .thing; sets = x .sets .thing }
+
+-- the rule is read, and is all of the body
+pub rule-read : {a : Arity} {b : List ℕ} {p : Parts} (x : Laid a b p) → readRule (a .ins) (a .outs) (a .vars) b ≡ got (ruleIs x) (length b)
+unfolding readRule after patternsFrom actionsFrom patternCodes actionCodes ruleIs
+rule-read {a} {b} {p} x =
+    let k = x .ins .size in
+    let l = x .vars .size in
+    let m = x .guard .size in
+    let n = x .outs .size in
+    let q = x .sets .size in
+    let e₂ : p .vars ≡ k = omega (arith, x .ins .ends) in
+    let e₃ : p .guard ≡ k + l = omega (arith, x .vars .ends) in
+    let e₄ : p .outs ≡ k + l + m = omega (arith, x .guard .ends) in
+    let e₅ : p .sets ≡ k + l + m + n = omega (arith, x .outs .ends) in
+    let e₆ : k + l + m + n + q ≡ length b = omega (arith, x .sets .ends) in
+    let r₁ : readMany (readPattern inputCode) (a .ins) b ≡ got (x .ins .thing) k = x .ins .read in
+    let r₂ : readMany (readPattern variableCode) (a .vars) (drop k b) ≡ got (x .vars .thing) l = ap (λ (j : ℕ). readMany (readPattern variableCode) (a .vars) (drop j b)) (sym e₂) ∙ x .vars .read in
+    let r₃ : expression (drop (k + l) b) ≡ got (x .guard .thing) m = ap (λ (j : ℕ). expression (drop j b)) (sym e₃) ∙ x .guard .read in
+    let r₄ : readMany (readAction outputAction) (a .outs) (drop (k + l + m) b) ≡ got (x .outs .thing) n = ap (λ (j : ℕ). readMany (readAction outputAction) (a .outs) (drop j b)) (sym e₄) ∙ x .outs .read in
+    let r₅ : readMany (readAction variableAction) (a .vars) (drop (k + l + m + n) b) ≡ got (x .sets .thing) q = ap (λ (j : ℕ). readMany (readAction variableAction) (a .vars) (drop j b)) (sym e₅) ∙ x .sets .read in
+    rw (r₁, r₂, r₃, r₄, r₅, e₆)
+
+-- ── the limits of the rule ───────────────────────────────────────────────────────────────────
+
+module _ {a : Arity} {b : List ℕ} {p : Parts} (x : Laid a b p) (seen : ℕ) where
+  rule-limits : ruleLimits seen b (ruleRead (readRule (a .ins) (a .outs) (a .vars) b)) ≡ (ltb seen 16 && leb (length b) 512 && limitsRead (expression (drop (p .guard) b)) && limitsOf (actionsFrom false (a .outs) (p .outs) b) && limitsOf (actionsFrom true (a .vars) (p .sets) b))
+  unfolding ruleLimits ruleRead limitsRead limitsOf ruleIs
+  rule-limits = rw (rule-read x, x .guard .read, x .outs .read, x .sets .read)
+
+  pub limits-1 : 16 ≤ seen → false ≡ ruleLimits seen b (ruleRead (readRule (a .ins) (a .outs) (a .vars) b))
+  limits-1 h = sym (rule-limits ∙ rw (le-ltb seen 16 h))
+
+  module _ (h : seen < 16) where
+    pub limits-2 : 512 < length b → false ≡ ruleLimits seen b (ruleRead (readRule (a .ins) (a .outs) (a .vars) b))
+    limits-2 l = sym (rule-limits ∙ rw (lt-ltb seen 16 h, lt-leb (length b) 512 l))
+
+    module _ (l : length b ≤ 512) where
+      pub limits-3 : limitsRead (expression (drop (p .guard) b)) ≡ false → false ≡ ruleLimits seen b (ruleRead (readRule (a .ins) (a .outs) (a .vars) b))
+      limits-3 g = sym (rule-limits ∙ rw (lt-ltb seen 16 h, le-leb (length b) 512 l, g))
+
+      module _ (g : limitsRead (expression (drop (p .guard) b)) ≡ true) where
+        pub limits-4 : limitsOf (actionsFrom false (a .outs) (p .outs) b) ≡ false → false ≡ ruleLimits seen b (ruleRead (readRule (a .ins) (a .outs) (a .vars) b))
+        limits-4 o = sym (rule-limits ∙ rw (lt-ltb seen 16 h, le-leb (length b) 512 l, g, o))
+
+        pub limits-5 : {r : Bool} → limitsOf (actionsFrom false (a .outs) (p .outs) b) ≡ true → r ≡ limitsOf (actionsFrom true (a .vars) (p .sets) b) → r ≡ ruleLimits seen b (ruleRead (readRule (a .ins) (a .outs) (a .vars) b))
+        limits-5 o e = e ∙ sym (rule-limits ∙ rw (lt-ltb seen 16 h, le-leb (length b) 512 l, g, o))

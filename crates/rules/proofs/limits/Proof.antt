@@ -1,42 +1,54 @@
+use mathlib.Core.Path.{sym, _∙_}
+use native.Mathlib.Omega.{arith}
+use borrow.Author.Tests.{not-true, not-false}
+use Rattle.rules.proofs.Laying.{laid, limits-1, limits-2, limits-3, limits-4, limits-5}
 use borrow.Author.Needs.{needs}
 use Rattle.rules.proofs.limits.Statement.{statement}
 use Rattle.rules.proofs.limits.Tie as tie
-use Rattle.rules.proofs.limits.Reads as reads
-use Rattle.rules.proofs.limits.Lts as lts
-use Rattle.rules.proofs.actions_limits.Reads as actions-limits-reads
-use Rattle.rules.proofs.expression_limits.Reads as expression-limits-reads
 
--- src/lib.rt:224:9
 returns : tie.Need-returns
-returns c = ?
+returns c =
+    let s = c .before .before in
+    let a = s .args in
+    let x = laid (a .a) (a .b .now) (a .p) (s .pre) in
+    limits-1 x (a .seen) (omega arith)
 
--- src/lib.rt:227:9
 returns-2 : tie.Need-returns-2
-returns-2 c = ?
+returns-2 c =
+    let s = c .before .before .before in
+    let a = s .args in
+    let x = laid (a .a) (a .b .now) (a .p) (s .pre) in
+    limits-2 x (a .seen) (omega arith) (omega arith)
 
--- src/lib.rt:229:9
 expression-limits-requires : tie.Need-expression-limits-requires
 expression-limits-requires c κs = search needs
 
--- src/lib.rt:230:9
 returns-3 : tie.Need-returns-3
-returns-3 c = ?
+returns-3 c =
+    let s = c .before .before .before .before .before in
+    let a = s .args in
+    let x = laid (a .a) (a .b .now) (a .p) (s .pre) in
+    limits-3 x (a .seen) (omega arith) (omega arith) (sym (c .before .expression-limits .ensures) ∙ not-true _ (c .if3 .taken))
 
--- src/lib.rt:232:9
 actions-limits-requires : tie.Need-actions-limits-requires
 actions-limits-requires c κs = search needs
 
--- src/lib.rt:233:9
 returns-4 : tie.Need-returns-4
-returns-4 c = ?
+returns-4 c =
+    let s = c .before .before .before .before .before .before .before in
+    let a = s .args in
+    let x = laid (a .a) (a .b .now) (a .p) (s .pre) in
+    limits-4 x (a .seen) (omega arith) (omega arith) (sym (c .before .before .before .expression-limits .ensures) ∙ not-false _ (c .before .before .if3 .left)) (sym (c .before .actions-limits .ensures) ∙ not-true _ (c .if4 .taken))
 
--- src/lib.rt:235:5
 actions-limits-requires-2 : tie.Need-actions-limits-requires-2
 actions-limits-requires-2 c κs = search needs
 
--- src/lib.rt:219:1
 returns-5 : tie.Need-returns-5
-returns-5 c = ?
+returns-5 c =
+    let s = c .before .before .before .before .before .before .before .before in
+    let a = s .args in
+    let x = laid (a .a) (a .b .now) (a .p) (s .pre) in
+    limits-5 x (a .seen) (omega arith) (omega arith) (sym (c .before .before .before .before .expression-limits .ensures) ∙ not-false _ (c .before .before .before .if3 .left)) (sym (c .before .before .actions-limits .ensures) ∙ not-false _ (c .before .if4 .left)) (c .actions-limits2 .ensures)
 
 pub limits-spec : {M : Type 1} → statement M
 limits-spec =
