@@ -166,7 +166,7 @@ rule-read {a} {b} {p} x =
 -- ── the limits of the rule ───────────────────────────────────────────────────────────────────
 
 module _ {a : Arity} {b : List ℕ} {p : Parts} (x : Laid a b p) (seen : ℕ) where
-  rule-limits : ruleLimits seen b (ruleRead (readRule (a .ins) (a .outs) (a .vars) b)) ≡ (ltb seen 16 && leb (length b) 512 && limitsRead (expression (drop (p .guard) b)) && limitsOf (actionsFrom false (a .outs) (p .outs) b) && limitsOf (actionsFrom true (a .vars) (p .sets) b))
+  pub rule-limits : ruleLimits seen b (ruleRead (readRule (a .ins) (a .outs) (a .vars) b)) ≡ (ltb seen 16 && leb (length b) 512 && limitsRead (expression (drop (p .guard) b)) && limitsOf (actionsFrom false (a .outs) (p .outs) b) && limitsOf (actionsFrom true (a .vars) (p .sets) b))
   unfolding ruleLimits ruleRead limitsRead limitsOf ruleIs
   rule-limits = rw (rule-read x, x .guard .read, x .outs .read, x .sets .read)
 

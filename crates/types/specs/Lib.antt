@@ -1,0 +1,2 @@
+-- What the contracts of types cite beside the model.
+pub mod Scopes
