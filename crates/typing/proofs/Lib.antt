@@ -3,3 +3,4 @@ pub mod Peeling
 pub mod Patterns
 pub mod Scoping
 pub mod Actions
+pub mod Wholes

@@ -20,10 +20,11 @@ use Rattle.expressions.specs.declared.Form.the-variants.{Bytes, Malformed}
 use Rattle.expressions.proofs.Heads.{head-at}
 use Rattle.octets.proofs.Laws.{value-drop}
 use Rattle.shapes.specs.Shapes.{typesIn}
+use Rattle.types.specs.Scopes.{scopeIn}
 use Rattle.rules.specs.Bodies.{patternCodes, patternsFrom, endAt}
 use Rattle.rules.proofs.Ends.{pattern-none}
 use Rattle.rules.proofs.Laying.{Found}
-use Rattle.typing.specs.Fits.{fittingOf, isRead, listRead, tagOf, Precise}
+use Rattle.typing.specs.Fits.{fittingOf, isRead, listRead, tagOf, scopeRead, Precise, Agree}
 use Rattle.typing.specs.declared.Fitting.the-variants.{Fits, Fails}
 use Rattle.typing.proofs.Peeling.{typesFrom, types-all, types-more, Peel, peel, there}
 
@@ -287,3 +288,26 @@ tabulate-at (suc m) f (suc k) h = tabulate-at m (λ j. f (suc j)) k (omega arith
 pub types-at : (t : List ℕ) (n k : ℕ) → k < n → getD (typesIn t n) k noType ≡ typeAt t (2 * k)
 unfolding typesIn
 types-at t n k h = tabulate-at n (λ k. typeAt t (2 * k)) k h
+
+-- the table of types agrees with what the patterns match
+module _ (ts ins vars : List ℕ) (n v : ℕ) (r : Read (List Pattern)) where
+  pub scope-agree : n ≤ 4 → v ≤ 4 → typeAt ts 0 ≡ getD (matchedTypes (typesIn ins n) (listRead r)) 0 noType → typeAt ts 2 ≡ getD (matchedTypes (typesIn ins n) (listRead r)) 1 noType
+      → typeAt ts 4 ≡ getD (matchedTypes (typesIn ins n) (listRead r)) 2 noType → typeAt ts 6 ≡ getD (matchedTypes (typesIn ins n) (listRead r)) 3 noType
+      → typeAt ts 8 ≡ getD (typesIn vars v) 0 noType → typeAt ts 10 ≡ getD (typesIn vars v) 1 noType → typeAt ts 12 ≡ getD (typesIn vars v) 2 noType → typeAt ts 14 ≡ getD (typesIn vars v) 3 noType
+      → Agree (scopeIn ts) (scopeRead (typesIn ins n) (typesIn vars v) r)
+  unfolding scopeIn scopeRead
+  scope-agree h g a b c d e f x y = record { ins = is; vars = vs }
+    where
+      is : (i : ℕ) → getD (typeAt ts 0 ∷ typeAt ts 2 ∷ typeAt ts 4 ∷ typeAt ts 6 ∷ []) i noType ≡ getD (matchedTypes (typesIn ins n) (listRead r)) i noType
+      is zero = a
+      is (suc zero) = b
+      is (suc (suc zero)) = c
+      is (suc (suc (suc zero))) = d
+      is (suc (suc (suc (suc i)))) = sym (matched-none ins n (listRead r) (suc (suc (suc (suc i)))) (omega arith))
+
+      vs : (i : ℕ) → getD (typeAt ts 8 ∷ typeAt ts 10 ∷ typeAt ts 12 ∷ typeAt ts 14 ∷ []) i noType ≡ getD (typesIn vars v) i noType
+      vs zero = e
+      vs (suc zero) = f
+      vs (suc (suc zero)) = x
+      vs (suc (suc (suc zero))) = y
+      vs (suc (suc (suc (suc i)))) = sym (types-none vars v (suc (suc (suc (suc i)))) (omega arith))

@@ -33,6 +33,7 @@ types-more t k n h = let e : n - k ≡ suc (n - (k + 1)) = omega arith in ap (ty
   where
     first : 2 * (k + 0) ≡ 2 * k
     first = omega arith
+
     go : (m : ℕ) → typesFrom t k (suc m) ≡ typeAt t (2 * k) ∷ typesFrom t (k + 1) m
     go m = λ i. ap (typeAt t) first i ∷ tabulate-same m (λ j. typeAt t (2 * (k + suc j))) (λ j. typeAt t (2 * (k + 1 + j))) (λ j l. ap (typeAt t) (omega arith)) i
 

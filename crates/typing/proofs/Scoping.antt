@@ -49,7 +49,7 @@ type-same s t h (if c e f) =
 
 -- within the n bytes of the expression
 unfoldable pub Below : ℕ → Typed → Type 0
-Below n (typed t) = ⊤
+Below n (typed t) = Unit {0}
 Below n (ill k) = k < n
 
 judged-below : (b : Bool) (t : Ty) (n : ℕ) → 0 < n → Below n (judged b t)
@@ -99,7 +99,7 @@ exp-there b at e = go (ltb at (length b)) refl
 
 module _ (sc : Scope) (u : List ℕ) where
   typed-go : (r : Read Exp) {t : Ty} {m : ℕ} → limitsRead r ≡ true → typing.Typed t m ≡ typedAt sc 0 r → typeOf sc (expRead r) ≡ typed t
-  unfolding limitsRead typedAt expRead
+  unfolding limitsRead typedAt expRead placed
   typed-go bad l e = let z : _≡_ {A = ℕ} 0 1 = cc in absurd (omega arith)
   typed-go (got x n) {t} {m} l e = go (typeOf sc x) e
     where
@@ -108,7 +108,7 @@ module _ (sc : Scope) (u : List ℕ) where
       go (ill k) q = let z : _≡_ {A = ℕ} 0 1 = cc in absurd (omega arith)
 
   ill-go : (r : Read Exp) {k : ℕ} → limitsRead r ≡ true → typing.Ill k ≡ typedAt sc 0 r → typeOf sc (expRead r) ≡ ill k
-  unfolding limitsRead typedAt expRead
+  unfolding limitsRead typedAt expRead placed
   ill-go bad l e = let z : _≡_ {A = ℕ} 0 1 = cc in absurd (omega arith)
   ill-go (got x n) {k} l e = go (typeOf sc x) e
     where
@@ -148,7 +148,7 @@ module _ (sc : Scope) (b u : List ℕ) (at : ℕ) (d : u ≡ drop at b) (l : lim
   pub part-inside : {k : ℕ} → typing.Ill k ≡ typedAt sc 0 (expression u) → k < length b - at
   part-inside e = let q : length u ≡ length b - at = ap length d ∙ length-drop at b in omega (arith, ill-inside sc u part-limits e)
 
-pub guard-typed : (at : ℕ) (r : Typed) (t : Ty) (q : Bool) {w : Fit} → r ≡ typed t → q ≡ isBool t → fitIf q at ≡ guardFits at r
+pub guard-typed : (at : ℕ) (r : Typed) (t : Ty) (q : Bool) → r ≡ typed t → q ≡ isBool t → fitIf q at ≡ guardFits at r
 unfolding guardFits
 guard-typed at r t q e g = rw (e, g)
 

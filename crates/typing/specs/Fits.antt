@@ -9,8 +9,9 @@ use lib.ListN.{getD, drop}
 use Rattle.model.specs.declared.Ty.{Ty}
 use Rattle.model.specs.Values.{noType, inPrecision}
 use Rattle.model.specs.Expressions.{Exp, Read, bad, got, expression, nothingRead, typeAt, Scope, Typed, ill, typeOf}
-use Rattle.model.specs.Rules.{Pattern, matchedTypes, Action, send, bareAction, sentTag, holdsExpression, Fit, fits, fails}
+use Rattle.model.specs.Rules.{Pattern, matchedTypes, Action, send, bareAction, sentTag, holdsExpression, Fit, fits, fails, also, guardFits, actionsFit}
 use Rattle.expressions.specs.Reading.{limitsRead}
+use Rattle.shapes.specs.Shapes.{typesIn}
 use Rattle.shapes.specs.declared.Arity.{Arity}
 use Rattle.rules.specs.declared.Parts.{Parts}
 use Rattle.rules.specs.Bodies.{actionsFrom, limitsOf}
@@ -52,6 +53,13 @@ pub record Precise (t : List ℕ) (n : ℕ) : Type 0 where
 pub record Agree (s t : Scope) : Type 0 where
   pub ins : (i : ℕ) → getD (s .ins) i noType ≡ getD (t .ins) i noType
   pub vars : (i : ℕ) → getD (s .vars) i noType ≡ getD (t .vars) i noType
+
+-- the guard and the actions of a body fit
+unfoldable pub expressionsFit : Scope → Arity → Parts → List ℕ → List ℕ → List ℕ → Fit
+expressionsFit sc a p outs vars b =
+    also (guardFits (p .guard) (typeOf sc (expRead (expression (drop (p .guard) b)))))
+    (also (actionsFit sc (p .outs) (typesIn outs (a .outs)) (listRead (actionsFrom false (a .outs) (p .outs) b)))
+    (actionsFit sc (p .sets) (typesIn vars (a .vars)) (listRead (actionsFrom true (a .vars) (p .sets) b))))
 
 -- the expressions of a body keep the limits
 pub record Kept (a : Arity) (p : Parts) (b : List ℕ) : Type 0 where

@@ -17,7 +17,7 @@ ghost use Rattle.expressions.specs.Reading.{limitsRead};
 ghost use Rattle.types.specs.Scopes.{scopeIn};
 ghost use Rattle.shapes.specs.Shapes.{typesIn, shapeIn};
 ghost use Rattle.rules.specs.Bodies.{patternsFrom, actionsFrom, sentLimits, limitsOf, layoutOf};
-ghost use Rattle.typing.specs.Fits.{fittingOf, isRead, listRead, expRead, actionAt, tagOf, scopeRead, Precise, Agree, Kept};
+ghost use Rattle.typing.specs.Fits.{fittingOf, isRead, listRead, expRead, actionAt, tagOf, scopeRead, expressionsFit, Precise, Agree, Kept};
 ghost use Rattle.typing.specs.RuleFault.{ruleFault};
 
 // All fits, or the offset of what does not.
@@ -148,7 +148,22 @@ fn scope(b: &[u8], ins: &[u8], vars: &[u8], a: Arity) -> [u8; 16]
     let w = variable_type(vars, a.vars, 2);
     let x = variable_type(vars, a.vars, 3);
     [
-        i.kind, i.p, j.kind, j.p, k.kind, k.p, l.kind, l.p, u.kind, u.p, v.kind, v.p, w.kind, w.p, x.kind, x.p,
+        i.kind,
+        i.p,
+        j.kind,
+        j.p,
+        k.kind,
+        k.p,
+        l.kind,
+        l.p,
+        u.kind,
+        u.p,
+        v.kind,
+        v.p,
+        w.kind,
+        w.p,
+        x.kind,
+        x.p,
     ]
 }
 
@@ -171,7 +186,10 @@ fn sent_fits(b: &[u8], at: usize, tag: u8, t: Ty, types: &[u8; 16]) -> Fitting
 {
     let from = at + 1;
     match types::type_of(&b[from..], types) {
-        Typing::Typed { ty, next: _ } => fit_if(values::same_type(ty, values::carried(t)) & values::tag_fits(t, tag), at),
+        Typing::Typed { ty, next: _ } => fit_if(
+            values::same_type(ty, values::carried(t)) & values::tag_fits(t, tag),
+            at,
+        ),
         Typing::Ill { at: k } => Fitting::Fails { at: from + k },
     }
 }
@@ -196,7 +214,14 @@ fn action_fits(b: &[u8], at: usize, t: Ty, types: &[u8; 16]) -> Fitting
 }
 
 // The n actions from an offset on fit the first types of a table.
-fn actions_fit(b: &[u8], from: usize, n: usize, table: &[u8], types: &[u8; 16], var: bool) -> Fitting
+fn actions_fit(
+    b: &[u8],
+    from: usize,
+    n: usize,
+    table: &[u8],
+    types: &[u8; 16],
+    var: bool,
+) -> Fitting
     requires { ⌜ n ≤ 4 ⌝ }
     requires { ⌜ limitsOf (actionsFrom var n from (now b)) ≡ true ⌝ }
     ensures { λ r. ⌜ r ≡ fittingOf (actionsFit (scopeIn (now (types .entry))) from (typesIn (now (table .entry)) n) (listRead (actionsFrom var n from (now (b .entry))))) ⌝ }
@@ -215,4 +240,66 @@ fn actions_fit(b: &[u8], from: usize, n: usize, table: &[u8], types: &[u8; 16], 
         k += 1;
     }
     Fitting::Fits
+}
+
+// The guard, the output actions and the variable actions fit.
+fn expressions_fit(
+    b: &[u8],
+    outs: &[u8],
+    vars: &[u8],
+    a: Arity,
+    p: Parts,
+    types: &[u8; 16],
+) -> Fitting
+    requires { ⌜ (a .outs ≤ 4) × (a .vars ≤ 4) ⌝ }
+    requires { ⌜ Kept a p (now b) ⌝ }
+    ensures { λ r. ⌜ r ≡ fittingOf (expressionsFit (scopeIn (now (types .entry))) a p (now (outs .entry)) (now (vars .entry)) (now (b .entry))) ⌝ }
+{
+    let guard = guard_fits(b, p.guard, types);
+    let Fitting::Fits = guard else {
+        return guard;
+    };
+    let sent = actions_fit(b, p.outs, a.outs, outs, types, false);
+    let Fitting::Fits = sent else {
+        return sent;
+    };
+    actions_fit(b, p.sets, a.vars, vars, types, true)
+}
+
+// The parts of a rule fit the shape of its box, from the left.
+pub fn types_fit(b: &[u8], ins: &[u8], outs: &[u8], vars: &[u8], a: Arity, p: Parts) -> Fitting
+    requires { ⌜ (a .ins ≤ 4) × (a .outs ≤ 4) × (a .vars ≤ 4) ⌝ }
+    requires { ⌜ Precise (now ins) (a .ins) × Precise (now vars) (a .vars) ⌝ }
+    requires { ⌜ layoutOf a (now b) ≡ Layout.Whole p ⌝ }
+    requires { ⌜ Kept a p (now b) ⌝ }
+    ensures { λ r. ⌜ r ≡ fittingOf (ruleFits (shapeIn (now (ins .entry)) (now (outs .entry)) (now (vars .entry)) a) (ruleRead (readRule (a .ins) (a .outs) (a .vars) (now (b .entry))))) ⌝ }
+{
+    let first = patterns_fit(b, 0, a.ins, ins, false);
+    let Fitting::Fits = first else {
+        return first;
+    };
+    let second = patterns_fit(b, p.vars, a.vars, vars, true);
+    let Fitting::Fits = second else {
+        return second;
+    };
+    let types = scope(b, ins, vars, a);
+    expressions_fit(b, outs, vars, a, p, &types)
+}
+
+// What is wrong with a rule: 1 form, 2 limits, 4 types, 0 where all is well; `seen` rules of its box stand before it.
+pub fn rule_fault(body: &[u8], ins: &[u8], outs: &[u8], vars: &[u8], a: Arity, seen: usize) -> u8
+    requires { ⌜ (a .ins ≤ 4) × (a .outs ≤ 4) × (a .vars ≤ 4) ⌝ }
+    requires { ⌜ Precise (now ins) (a .ins) × Precise (now vars) (a .vars) ⌝ }
+    ensures { λ r. ⌜ r ≡ ruleFault (shapeIn (now (ins .entry)) (now (outs .entry)) (now (vars .entry)) a) seen (now (body .entry)) ⌝ }
+{
+    let Layout::Whole { parts: p } = rules::parts_of(body, a) else {
+        return 1;
+    };
+    if !rules::limits(body, a, p, seen) {
+        return 2;
+    }
+    let Fitting::Fits = types_fit(body, ins, outs, vars, a, p) else {
+        return 4;
+    };
+    0
 }

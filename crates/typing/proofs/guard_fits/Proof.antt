@@ -1,68 +1,61 @@
+use mathlib.Core.Path.{sym, ap, _∙_}
+use mathlib.Core.List.{List}
+use Prim.Native.Nat.{ℕ}
+use native.Mathlib.Omega.{arith}
 use borrow.Author.Needs.{needs}
+use Rattle.model.specs.Expressions.{expression}
+use Rattle.expressions.specs.Reading.{limitsRead}
+use Rattle.types.specs.Scopes.{scopeIn}
+use Rattle.rules.proofs.Ends.{part-is}
+use Rattle.typing.specs.Fits.{fittingOf}
+use Rattle.typing.proofs.Scoping.{exp-there, part-typed, part-ill, part-inside, guard-typed, guard-ill}
 use Rattle.typing.proofs.guard_fits.Statement.{statement}
 use Rattle.typing.proofs.guard_fits.Tie as tie
-use Rattle.typing.proofs.guard_fits.Reads as reads
-use Rattle.typing.proofs.guard_fits.Lts as lts
-use Rattle.types.proofs.type_of.Reads as type-of-reads
-use Rattle.typing.proofs.fit_if.Reads as fit-if-reads
-use Rattle.values.proofs.is_bool.Reads as is-bool-reads
 
--- src/lib.rt:160:26
 sub-type-of : tie.Need-sub-type-of
-sub-type-of c = ?
+sub-type-of c = omega (arith, exp-there (c .before .args .b .now) (c .before .args .at) (c .before .pre))
 
--- src/lib.rt:160:26
 part-type-of-start : tie.Need-part-type-of-start
-part-type-of-start c = ?
+part-type-of-start c = omega (arith, exp-there (c .before .args .b .now) (c .before .args .at) (c .before .pre))
 
--- src/lib.rt:160:26
 part-type-of-end : tie.Need-part-type-of-end
 part-type-of-end c = search needs
 
--- src/lib.rt:160:11
 type-of-requires : tie.Need-type-of-requires
-type-of-requires c κs = ?
+type-of-requires c κs =
+    let s = c .before .before in
+    ap (λ (x : List ℕ). limitsRead (expression x)) (part-is (s .args .b .now) (s .args .at)) ∙ s .pre
 
--- src/lib.rt:161:25
 enum-known-ty : tie.Need-enum-known-ty
 enum-known-ty c = search needs
 
--- src/lib.rt:161:49
 is-bool-requires : tie.Need-is-bool-requires
 is-bool-requires c κs = search needs
 
--- src/lib.rt:161:42
 fit-if-requires : tie.Need-fit-if-requires
 fit-if-requires c κs = search needs
 
--- src/lib.rt:162:27
 enum-known-k : tie.Need-enum-known-k
 enum-known-k c = search needs
 
--- src/lib.rt:162:55
 add-t13 : tie.Need-add-t13
-add-t13 c = ?
+add-t13 c =
+    let s = c .before .before .before .before .before .before in
+    let a = s .args in
+    record { fits = omega (arith, part-inside (scopeIn (a .types .now)) (a .b .now) _ (a .at) (part-is (a .b .now) (a .at)) (s .pre) (sym (c .before .k .given .1) ∙ c .before .before .before .type-of .ensures), s .good .0 .0) }
 
--- src/lib.rt:156:1
 returns : tie.Need-returns
-returns c = ?
+returns c =
+    let s = c .before .before .before .before .before .before .before .before in
+    let a = s .args in
+    c .fit-if .ensures
+    ∙ ap fittingOf (guard-typed (a .at) _ _ _ (part-typed (scopeIn (a .types .now)) (a .b .now) _ (a .at) (part-is (a .b .now) (a .at)) (s .pre) (sym (c .before .before .before .ty .given .1) ∙ c .before .before .before .before .before .type-of .ensures)) (c .before .is-bool .ensures))
 
--- src/lib.rt:156:1
 returns-2 : tie.Need-returns-2
-returns-2 c = ?
+returns-2 c =
+    let s = c .before .before .before .before .before .before in
+    let a = s .args in
+    guard-ill (a .at) _ _ (part-ill (scopeIn (a .types .now)) (a .b .now) _ (a .at) (part-is (a .b .now) (a .at)) (s .pre) (sym (c .before .k .given .1) ∙ c .before .before .before .type-of .ensures))
 
 pub guard-fits-spec : {M : Type 1} → statement M
-guard-fits-spec =
-    tie.close
-    (tie.spec
-    sub-type-of
-    part-type-of-start
-    part-type-of-end
-    type-of-requires
-    enum-known-ty
-    is-bool-requires
-    fit-if-requires
-    enum-known-k
-    add-t13
-    returns
-    returns-2)
+guard-fits-spec = tie.close (tie.spec sub-type-of part-type-of-start part-type-of-end type-of-requires enum-known-ty is-bool-requires fit-if-requires enum-known-k add-t13 returns returns-2)

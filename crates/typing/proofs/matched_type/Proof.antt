@@ -39,7 +39,6 @@ enum-known-end c = search needs
 enum-told : tie.Need-enum-told Inv-loop μ-loop
 enum-told c = search needs
 
-
 returns-2 : tie.Need-returns-2 Inv-loop μ-loop
 unfolding patternsFrom
 returns-2 c =
@@ -52,7 +51,6 @@ add-j c = search needs
 
 loop-less : tie.Need-loop-less Inv-loop μ-loop
 loop-less c = search needs
-
 
 loop-again : tie.Need-loop-again Inv-loop μ-loop
 loop-again c =
@@ -70,7 +68,6 @@ entry-requires c κs = search needs
 
 carried-requires : tie.Need-carried-requires Inv-loop μ-loop
 carried-requires c κs = search needs
-
 
 returns-3 : tie.Need-returns-3 Inv-loop μ-loop
 returns-3 c =

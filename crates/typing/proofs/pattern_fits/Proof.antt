@@ -15,7 +15,6 @@ use Rattle.typing.proofs.pattern_fits.Tie as tie
 byte-at-requires : tie.Need-byte-at-requires
 byte-at-requires c κs = search needs
 
-
 returns : tie.Need-returns
 returns c =
     let a = c .before .before .before .args in
@@ -26,7 +25,6 @@ pattern-tag-requires c κs = search needs
 
 tag-fits-requires : tie.Need-tag-fits-requires
 tag-fits-requires c κs = search needs
-
 
 returns-2 : tie.Need-returns-2
 returns-2 c =
@@ -43,7 +41,6 @@ add-value-at c = search needs
 
 value-at-requires : tie.Need-value-at-requires
 value-at-requires c κs = search needs
-
 
 within-requires : tie.Need-within-requires
 within-requires c κs =

@@ -7,7 +7,6 @@ use Rattle.typing.proofs.pattern_tag.Tie as tie
 sub-result : tie.Need-sub-result
 sub-result c = search needs
 
-
 returns : tie.Need-returns
 returns c = tag-low _ (omega arith)
 

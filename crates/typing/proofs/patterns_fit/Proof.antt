@@ -33,7 +33,6 @@ enum-known-end c = search needs
 enum-told : tie.Need-enum-told Inv-loop μ-loop
 enum-told c = search needs
 
-
 returns : tie.Need-returns Inv-loop μ-loop
 unfolding patternsFrom
 returns c =
@@ -43,7 +42,6 @@ returns c =
 
 entry-requires : tie.Need-entry-requires Inv-loop μ-loop
 entry-requires c κs = search needs
-
 
 pattern-fits-requires : tie.Need-pattern-fits-requires Inv-loop μ-loop
 pattern-fits-requires c κs =
@@ -63,7 +61,6 @@ add-k c = search needs
 
 loop-less : tie.Need-loop-less Inv-loop μ-loop
 loop-less c = search needs
-
 
 loop-again : tie.Need-loop-again Inv-loop μ-loop
 loop-again c =

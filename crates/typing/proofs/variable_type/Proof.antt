@@ -13,7 +13,6 @@ returns c = sym (types-none _ _ _ (c .if1 .taken))
 entry-requires : tie.Need-entry-requires
 entry-requires c κs = search needs
 
-
 returns-2 : tie.Need-returns-2
 returns-2 c = c .entry .ensures ∙ sym (types-at _ _ _ (omega arith))
 
