@@ -1,0 +1,56 @@
+use mathlib.Core.Path.{_≡_, refl, sym, _∙_}
+use native.Mathlib.Omega.{arith}
+use borrow.Author.Needs.{needs}
+use Rattle.model.specs.Rules.{readAction}
+use Rattle.rules.specs.Bodies.{actionCodes, actionsFrom, endAt}
+use Rattle.rules.proofs.Ends.{end-step, end-bad, end-none}
+use Rattle.rules.proofs.actions_end.Statement.{statement}
+use Rattle.rules.proofs.actions_end.Tie as tie
+
+abbrev Inv-loop : tie.InvT-loop
+Inv-loop b from n var at₀ left₀ at left = endAt at (actionsFrom var left at b) ≡ endAt from (actionsFrom var n from b)
+
+abbrev μ-loop : tie.MeasureT-loop
+μ-loop b from n var at₀ left₀ at left = left
+
+loop-holds : tie.Need-loop-holds Inv-loop μ-loop
+loop-holds c = refl
+
+action-end-requires : tie.Need-action-end-requires Inv-loop μ-loop
+action-end-requires c κs = search needs
+
+enum-known-end : tie.Need-enum-known-end Inv-loop μ-loop
+enum-known-end c = search needs
+
+enum-told : tie.Need-enum-told Inv-loop μ-loop
+enum-told c = search needs
+
+returns : tie.Need-returns Inv-loop μ-loop
+unfolding actionsFrom
+returns c =
+    let a = c .before .before .before .before .before .before .args in
+    let i = c .before .before .before .before .loop in
+    sym (end-bad (readAction (actionCodes (a .var))) (a .b .now) (i .left) (i .at) (c .before .before .before .loop-test .taken) (sym (c .before .before .action-end .ensures) ∙ c .enum-told .given .1)) ∙ i .inv
+
+sub-left : tie.Need-sub-left Inv-loop μ-loop
+sub-left c = search needs
+
+loop-less : tie.Need-loop-less Inv-loop μ-loop
+loop-less c = search needs
+
+loop-again : tie.Need-loop-again Inv-loop μ-loop
+unfolding actionsFrom
+loop-again c =
+    let a = c .before .before .before .before .before .before .before .args in
+    let i = c .before .before .before .before .before .loop in
+    sym (end-step (readAction (actionCodes (a .var))) (a .b .now) (i .left) (i .at) (c .before .end .given .0 .0) (c .before .before .before .before .loop-test .taken) (sym (c .before .before .before .action-end .ensures) ∙ c .before .end .given .1)) ∙ i .inv
+
+returns-2 : tie.Need-returns-2 Inv-loop μ-loop
+unfolding actionsFrom
+returns-2 c =
+    let a = c .before .before .before .args in
+    let i = c .before .loop in
+    sym (end-none (readAction (actionCodes (a .var))) (a .b .now) (i .left) (i .at) (c .loop-test .left)) ∙ i .inv
+
+pub actions-end-spec : {M : Type 1} → statement M
+actions-end-spec = tie.close (tie.spec Inv-loop μ-loop loop-holds action-end-requires enum-known-end enum-told returns sub-left loop-less loop-again returns-2)

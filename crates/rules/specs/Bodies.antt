@@ -1,0 +1,59 @@
+-- A rule's body read part by part: where each part ends, and what all of them come to.
+-- Assumes nothing.
+use Prim.Native.Nat.{ℕ, _+_}
+use mathlib.Core.Bool.{Bool, true, false, cond}
+use mathlib.Core.List.{List}
+use lib.Dec.{eqb}
+use lib.ListN.{getD, drop, length}
+use Rattle.model.specs.Expressions.{Read, bad, got, readMany, expression}
+use Rattle.model.specs.Rules.{Pattern, Action, inputCode, variableCode, outputAction, variableAction, readPattern, readAction, holdsExpression, actionLimits}
+use Rattle.expressions.specs.declared.Form.{Form}
+use Rattle.expressions.specs.declared.Form.the-variants.{Bytes, Malformed}
+use Rattle.expressions.specs.Reading.{limitsRead}
+use Rattle.shapes.specs.declared.Arity.{Arity}
+use Rattle.rules.specs.declared.Parts.{Parts}
+use Rattle.rules.specs.declared.Layout.{Layout}
+use Rattle.rules.specs.declared.Layout.the-variants as layout
+
+-- the codes of a variable's pattern, or of an input's
+unfoldable pub patternCodes : Bool → ℕ → Bool
+patternCodes true = variableCode
+patternCodes false = inputCode
+
+-- the codes of a variable's action, or of an output's
+unfoldable pub actionCodes : Bool → ℕ → Bool
+actionCodes true = variableAction
+actionCodes false = outputAction
+
+unfoldable pub patternsFrom : Bool → ℕ → ℕ → List ℕ → Read (List Pattern)  -- n patterns from an offset on
+patternsFrom v n at b = readMany (readPattern (patternCodes v)) n (drop at b)
+
+unfoldable pub actionsFrom : Bool → ℕ → ℕ → List ℕ → Read (List Action)  -- n actions from an offset on
+actionsFrom v n at b = readMany (readAction (actionCodes v)) n (drop at b)
+
+-- the offset after what was read at an offset
+unfoldable pub endAt : {A : Type 0} → ℕ → Read A → Form
+endAt at bad = Malformed
+endAt at (got a n) = Bytes (at + n)
+
+-- the expression of the action at the start of a stretch, if it holds one, keeps the limits
+unfoldable pub sentLimits : List ℕ → Bool
+sentLimits s = cond (holdsExpression (getD s 0 0)) (limitsRead (expression (drop 1 s))) true
+
+unfoldable pub limitsOf : Read (List Action) → Bool  -- they are there, and their expressions keep the limits
+limitsOf bad = false
+limitsOf (got xs n) = actionLimits xs
+
+unfoldable pub next : Form → (ℕ → Layout) → Layout  -- go on from where a part ends
+next Malformed f = layout.Malformed
+next (Bytes n) f = f n
+
+-- where the parts after the input patterns begin, if they take the whole body
+unfoldable pub layoutOf : Arity → List ℕ → Layout
+layoutOf a b =
+    next (endAt 0 (patternsFrom false (a .ins) 0 b))
+    (λ k. next (endAt k (patternsFrom true (a .vars) k b))
+    (λ l. next (endAt l (expression (drop l b)))
+    (λ m. next (endAt m (actionsFrom false (a .outs) m b))
+    (λ n. next (endAt n (actionsFrom true (a .vars) n b))
+    (λ q. cond (eqb q (length b)) (layout.Whole (record { vars = k; guard = l; outs = m; sets = n })) layout.Malformed)))))
