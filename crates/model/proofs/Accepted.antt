@@ -381,6 +381,7 @@ module _ (s : List ℕ) (x : Index) (q : Valid s x) (at : ℕ) (inside : InFile 
 pub record Found (s : List ℕ) (tag start len at : ℕ) : Type 0 where
   pub start-is : start ≡ at + 3
   pub len-is : len ≡ twoAt s (at + 1)
+  pub ends : start + len ≤ length s
   pub body : stretch s start len ≡ bodyAt s at
   pub inside : InFile s at
 
@@ -394,7 +395,7 @@ field-found s tag start len at = by-head (ltb (length s) (at + 3)) (ltb (length 
     by-head false false h e =
         let p : at + 3 ≡ start = cc in
         let l : twoAt s (at + 1) ≡ len = cc in
-        record { start-is = sym p; len-is = sym l; body = rw (← p, ← l); inside = record { whole = ltb-false _ _ h } }
+        record { start-is = sym p; len-is = sym l; ends = omega (arith, p, l, ltb-false (length s) (at + 3 + twoAt s (at + 1)) h); body = rw (← p, ← l); inside = record { whole = ltb-false _ _ h } }
 
 -- a limit on how many fields of a kind there are
 pub wire-count : (seen : ℕ) (b : List ℕ) → wireLimits seen b ≡ true → seen < 64

@@ -362,6 +362,35 @@ box-good s x q k h =
       few-rules = omega (arith, length-tabulate c (λ r. ruleRead (ruleIn (shapeAt s x k) (bodyAt s (ruleAt x k r)))), q .few-rules k h);
     }
 
+-- ── the types of a box ───────────────────────────────────────────────────────────────────────
+
+wire-types-good : (ws : List Wire) → Each GoodWire noWire ws → (is : List ℕ) → Each (λ w. w < length ws) 0 is → Each GoodType noType (wireTypes ws is)
+unfolding wireTypes
+wire-types-good ws g [] h k l = absurd (omega (arith, l))
+wire-types-good ws g (i ∷ is) h zero l = (g i (h 0 (omega arith))) .ty
+wire-types-good ws g (i ∷ is) h (suc k) l = wire-types-good ws g is (λ j m. h (suc j) (omega (arith, m))) k (omega (arith, l))
+
+variable-types-good : (vs : List Variable) → Each GoodVariable noVariable vs → Each GoodType noType (variableTypes vs)
+unfolding variableTypes
+variable-types-good [] h k l = absurd (omega (arith, l))
+variable-types-good (v ∷ vs) h zero l = (h 0 (omega arith)) .ty
+variable-types-good (v ∷ vs) h (suc k) l = variable-types-good vs (λ j m. h (suc j) (omega (arith, m))) k (omega (arith, l))
+
+pub wires-good : (s : List ℕ) (x : Index) → Valid s x → Each GoodWire noWire (wiresOf s x)
+unfolding wiresOf
+wires-good s x q w h =
+    let g : w < length (x .wires) = omega (arith, length-map (x .wires) (wireOf s)) in
+    rw (getD-map-lt (wireOf s) (x .wires) w 0 noWire g) (wire-good s w (getD (x .wires) w 0) (q .wires w g))
+
+-- the types of box b's inputs and variables
+pub shape-ins : (s : List ℕ) (x : Index) → Valid s x → (b : ℕ) → b < length (x .boxes) → Each GoodType noType ((shapeAt s x b) .ins)
+unfolding shapeAt shapeOf
+shape-ins s x q b h = wire-types-good (wiresOf s x) (wires-good s x q) _ (unfold boxAt in (box-good s x q b h) .ins)
+
+pub shape-vars : (s : List ℕ) (x : Index) → Valid s x → (b : ℕ) → b < length (x .boxes) → Each GoodType noType ((shapeAt s x b) .vars)
+unfolding shapeAt shapeOf
+shape-vars s x q b h = variable-types-good _ (unfold boxAt in (box-good s x q b h) .vars)
+
 -- ── the whole network ────────────────────────────────────────────────────────────────────────
 
 -- a process is wired to declared wires; an input's tokens are of its wire's type; an output's room is 1 to 1,000

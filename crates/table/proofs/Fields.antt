@@ -8,7 +8,6 @@ use lib.ListN.{length}
 use borrow.Author.Tests.{le-leb, lt-leb, eq-eqb, ne-eqb, leb-true, eqb-true, eqb-false}
 use native.Mathlib.Omega.{arith}
 use Rattle.model.specs.Rules.{Shape, ruleRead}
-use Rattle.table.specs.RuleFault.{ruleFault}
 use Rattle.model.specs.NetworkFile.{Index, faultOf, wireForm, wireLimits, wireTypeFits, boxForm, boxLimits, boxTypes, ruleIn, ruleForm, ruleLimits, ruleTypes, inputForm, outputForm, outputLimits, shapeAt, inOrder, fieldFault}
 
 -- the faults of a field of each kind after those of an index
@@ -23,6 +22,9 @@ inputFault x b = faultOf (inputForm (length (x .wires)) b) (ltb (length (x .inpu
 
 abbrev pub outputFault : Index → List ℕ → ℕ
 outputFault x b = faultOf (outputForm (length (x .wires)) b) (outputLimits (length (x .outputs)) b) true
+
+abbrev pub ruleFault : Shape → ℕ → List ℕ → ℕ
+ruleFault sh seen b = faultOf (ruleForm sh b) (ruleLimits seen b (ruleRead (ruleIn sh b))) (ruleTypes sh (ruleRead (ruleIn sh b)))
 
 module _ (s : List ℕ) (x : Index) (tag : ℕ) (b : List ℕ) where
   pub late-1 : tag ≡ 1 → 1 < x .last → fieldFault s x tag b ≡ 1
@@ -54,7 +56,7 @@ module _ (s : List ℕ) (x : Index) (tag : ℕ) (b : List ℕ) where
   case-2 e h = rw e (simp (le-leb (x .last) 2 h))
 
   pub case-3 : tag ≡ 3 → x .last ≡ 2 → fieldFault s x tag b ≡ ruleFault (shapeAt s x (length (x .boxes) - 1)) (x .inbox) b
-  unfolding fieldFault inOrder ruleFault
+  unfolding fieldFault inOrder
   case-3 e h = rw e (simp (eq-eqb (x .last) 2 h))
 
   pub case-4 : tag ≡ 4 → x .last ≤ 4 → fieldFault s x tag b ≡ inputFault x b

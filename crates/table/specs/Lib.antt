@@ -1,3 +1,2 @@
--- The table, and a rule's fault.
+-- The table of offsets.
 pub mod Table
-pub mod RuleFault

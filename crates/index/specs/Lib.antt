@@ -1,0 +1,2 @@
+-- What an answer of the check stands for.
+pub mod Verdicts
