@@ -1,0 +1,3 @@
+-- What the contracts of typing cite beside the model.
+pub mod Fits
+pub mod RuleFault
