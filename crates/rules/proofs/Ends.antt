@@ -1,18 +1,15 @@
 -- Where patterns, expressions and actions end.
 -- Assumes nothing.
-use mathlib.Core.Path.{_≡_, refl, sym, ap, _∙_}
-use mathlib.Core.Bool.{Bool, true, false, cond, _&&_, _||_}
-use mathlib.Core.List.{List, [], _∷_}
+use mathlib.Core.Path.{_≡_, refl, ap, _∙_}
+use mathlib.Core.Bool.{Bool, true, false}
+use mathlib.Core.List.{List, _∷_}
 use Prim.Native.Nat.{ℕ, zero, suc, _+_, _-_, _≤_, _<_}
 use native.Mathlib.Omega.{arith}
-use lib.Dec.{leb, ltb, eqb}
 use lib.ListN.{getD, drop, take, length, length-drop}
-use lib.Seq.{drop-drop, getD-drop, take-all}
+use lib.Seq.{drop-drop, take-all}
 use borrow.Author.Tests.{le-leb, lt-leb, lt-ltb, le-ltb}
-use Rattle.model.specs.Bytes.{valueAt}
 use Rattle.model.specs.Expressions.{Exp, Read, bad, got, after, readMany, provided, expression}
-use Rattle.model.specs.Rules.{Action, send, bareAction, sentTag, patternSize, readPattern, readAction, holdsExpression}
-use Rattle.expressions.specs.declared.Form.{Form}
+use Rattle.model.specs.Rules.{send, sentTag, patternSize, readPattern, readAction, holdsExpression}
 use Rattle.expressions.specs.declared.Form.the-variants.{Bytes, Malformed}
 use Rattle.expressions.specs.Reading.{sizeRead}
 use Rattle.expressions.proofs.Reading.{no-exp, no-head}

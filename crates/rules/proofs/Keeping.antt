@@ -1,16 +1,15 @@
 -- The limits of actions, one after another.
 -- Assumes nothing.
-use mathlib.Core.Path.{_≡_, refl, sym, ap, _∙_}
-use mathlib.Core.Bool.{Bool, true, false, cond, _&&_, _||_}
-use mathlib.Core.List.{List, [], _∷_}
+use mathlib.Core.Path.{_≡_, refl, ap, _∙_}
+use mathlib.Core.Bool.{Bool, true, false, cond, _&&_}
+use mathlib.Core.List.{List, _∷_}
 use Prim.Native.Nat.{ℕ, zero, suc, _+_, _-_, _≤_, _<_}
 use native.Mathlib.Omega.{arith}
-use lib.Dec.{leb, ltb, eqb}
-use lib.ListN.{getD, drop, length, length-drop, List·getD-eq-default}
+use lib.Dec.{ltb, eqb}
+use lib.ListN.{getD, drop, length, List·getD-eq-default}
 use lib.Seq.{drop-drop}
 use Rattle.model.specs.Expressions.{Exp, Read, bad, got, after, readMany, provided, expression, expressionLimits}
 use Rattle.model.specs.Rules.{Action, nothing, bare, send, bareAction, sentTag, readAction, holdsExpression, actionLimits}
-use Rattle.expressions.specs.declared.Form.{Form}
 use Rattle.expressions.specs.declared.Form.the-variants.{Bytes, Malformed}
 use Rattle.expressions.specs.Reading.{limitsRead}
 use Rattle.expressions.proofs.Heads.{head-at}

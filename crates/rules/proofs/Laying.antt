@@ -1,16 +1,16 @@
 -- A whole body is a rule, and a rule's limits part by part.
 -- Assumes nothing.
 use mathlib.Core.Path.{_≡_, refl, sym, ap, _∙_, subst}
-use mathlib.Core.Bool.{Bool, true, false, cond, _&&_, _||_}
-use mathlib.Core.List.{List, [], _∷_}
-use Prim.Native.Nat.{ℕ, zero, suc, _+_, _-_, _≤_, _<_}
+use mathlib.Core.Bool.{Bool, true, false, cond, _&&_}
+use mathlib.Core.List.{List}
+use Prim.Native.Nat.{ℕ, _+_, _≤_, _<_}
 use native.Mathlib.Nat.{zero-add}
 use native.Mathlib.Omega.{arith}
 use lib.Dec.{leb, ltb, eqb}
 use lib.ListN.{drop, length}
 use borrow.Author.Tests.{le-leb, lt-leb, lt-ltb, le-ltb, eqb-true, eq-eqb, ne-eqb}
-use Rattle.model.specs.Expressions.{Exp, Read, bad, got, after, readMany, expression, expressionLimits}
-use Rattle.model.specs.Rules.{Pattern, Action, Rule, readPattern, readAction, readRule, ruleRead, isWhole, actionLimits, inputCode, variableCode, outputAction, variableAction}
+use Rattle.model.specs.Expressions.{Read, bad, got, after, readMany, expression}
+use Rattle.model.specs.Rules.{Rule, readPattern, readAction, readRule, ruleRead, isWhole, inputCode, variableCode, outputAction, variableAction}
 use Rattle.model.specs.NetworkFile.{ruleLimits}
 use Rattle.expressions.specs.declared.Form.{Form}
 use Rattle.expressions.specs.declared.Form.the-variants.{Bytes, Malformed}

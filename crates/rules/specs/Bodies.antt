@@ -11,7 +11,6 @@ use Rattle.expressions.specs.declared.Form.{Form}
 use Rattle.expressions.specs.declared.Form.the-variants.{Bytes, Malformed}
 use Rattle.expressions.specs.Reading.{limitsRead}
 use Rattle.shapes.specs.declared.Arity.{Arity}
-use Rattle.rules.specs.declared.Parts.{Parts}
 use Rattle.rules.specs.declared.Layout.{Layout}
 use Rattle.rules.specs.declared.Layout.the-variants as layout
 

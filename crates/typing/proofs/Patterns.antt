@@ -8,13 +8,13 @@ use native.Mathlib.Omega.{arith}
 use lib.Dec.{leb, ltb, eqb}
 use lib.IntN.{ℤ}
 use lib.ListN.{getD, drop, length, List·getD-eq-default}
-use borrow.Author.Tests.{le-leb, lt-leb, ltb-true, ltb-false, ne-eqb, eq-eqb, leb-true, leb-false, eqb-true, eqb-false}
+use borrow.Author.Tests.{le-leb, lt-leb, ltb-true, ltb-false, ne-eqb, leb-true}
 use Rattle.model.specs.declared.Ty.{Ty}
 use Rattle.model.specs.Bytes.{valueAt}
 use Rattle.model.specs.Values.{noType, isDc, carried, inPrecision, within}
-use Rattle.model.specs.Expressions.{Read, bad, got, readMany, provided, typeAt}
+use Rattle.model.specs.Expressions.{Read, got, readMany, provided, typeAt}
 use Rattle.model.specs.NetworkFile.{tabulate}
-use Rattle.model.specs.Rules.{Pattern, ignore, any, only, patternOf, patternSize, inputCode, variableCode, readPattern, Fit, fits, fails, also, fitIf, tagFits, patternFits, sizeOfPattern, patternsFit, matchedType, matchedTypes}
+use Rattle.model.specs.Rules.{Pattern, any, only, patternOf, patternSize, inputCode, variableCode, readPattern, Fit, fits, also, fitIf, tagFits, patternFits, sizeOfPattern, patternsFit, matchedType, matchedTypes}
 use Rattle.model.proofs.Tests.{and-left, and-right}
 use Rattle.expressions.specs.declared.Form.the-variants.{Bytes, Malformed}
 use Rattle.expressions.proofs.Heads.{head-at}
@@ -23,9 +23,8 @@ use Rattle.shapes.specs.Shapes.{typesIn}
 use Rattle.types.specs.Scopes.{scopeIn}
 use Rattle.rules.specs.Bodies.{patternCodes, patternsFrom, endAt}
 use Rattle.rules.proofs.Ends.{pattern-none}
-use Rattle.rules.proofs.Laying.{Found}
 use Rattle.typing.specs.Fits.{fittingOf, isRead, listRead, tagOf, scopeRead, Precise, Agree}
-use Rattle.typing.specs.declared.Fitting.the-variants.{Fits, Fails}
+use Rattle.typing.specs.declared.Fitting.the-variants.{Fails}
 use Rattle.typing.proofs.Peeling.{typesFrom, types-all, types-more, Peel, peel, there}
 
 -- ── by its code ──────────────────────────────────────────────────────────────────────────────

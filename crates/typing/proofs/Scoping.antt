@@ -1,25 +1,24 @@
 -- The type of an expression: through a scope only by number, and where it fails.
 -- Assumes nothing.
 use mathlib.Core.Path.{_≡_, refl, sym, ap, _∙_}
-use mathlib.Core.Bool.{Bool, true, false, cond, _&&_, _||_}
-use mathlib.Core.List.{List, [], _∷_}
-use Prim.Native.Nat.{ℕ, zero, suc, _+_, _-_, _*_, _≤_, _<_}
+use mathlib.Core.Bool.{Bool, true, false, cond, _&&_}
+use mathlib.Core.List.{List}
+use Prim.Native.Nat.{ℕ, _+_, _-_, _≤_, _<_}
 use native.Mathlib.Omega.{arith}
-use lib.Dec.{leb, ltb, eqb}
-use lib.ListN.{getD, drop, length, length-drop, List·getD-eq-default}
+use lib.Dec.{leb, ltb}
+use lib.ListN.{drop, length, length-drop}
 use borrow.Author.Tests.{ltb-true, ltb-false}
 use Rattle.model.specs.declared.Ty.{Ty}
-use Rattle.model.specs.Values.{noType, isBool, isNumber, isPlain, sameType, bool, carried}
-use Rattle.model.specs.Expressions.{Exp, literal, matched, variable, cast, one, two, if, Read, bad, got, expression, sizeOf, typeAt, Scope, Typed, typed, ill, judged, operandAt, oneType, twoType, countType, typeOf}
-use Rattle.model.specs.Rules.{Fit, fits, fails, also, fitIf, tagFits, hasType, guardFits, actionFits, send}
+use Rattle.model.specs.Values.{isBool, isPlain, sameType, bool, carried}
+use Rattle.model.specs.Expressions.{Exp, literal, matched, variable, cast, one, two, if, Read, bad, got, expression, sizeOf, Scope, Typed, typed, ill, judged, operandAt, oneType, twoType, typeOf}
+use Rattle.model.specs.Rules.{also, fitIf, tagFits, hasType, guardFits, actionFits, send}
 use Rattle.expressions.specs.Reading.{limitsRead}
 use Rattle.expressions.proofs.Depths.{All, bounded}
 use Rattle.expressions.proofs.Parts.{size-is}
-use Rattle.types.specs.declared.Typing.{Typing}
 use Rattle.types.specs.declared.Typing.the-variants as typing
-use Rattle.types.specs.Scopes.{scopeIn, placed, typedAt}
+use Rattle.types.specs.Scopes.{placed, typedAt}
 use Rattle.rules.proofs.Ends.{nothing-there}
-use Rattle.typing.specs.declared.Fitting.the-variants.{Fits, Fails}
+use Rattle.typing.specs.declared.Fitting.the-variants.{Fails}
 use Rattle.typing.specs.Fits.{Agree, expRead, fittingOf}
 
 -- ── the same scope by number ─────────────────────────────────────────────────────────────────

@@ -1,15 +1,15 @@
 -- All parts of a rule, and what is wrong with it.
 -- Assumes nothing.
 use mathlib.Core.Path.{_≡_, refl, sym, ap, _∙_}
-use mathlib.Core.Bool.{Bool, true, false, cond, _&&_}
+use mathlib.Core.Bool.{Bool, true, false}
 use mathlib.Core.List.{List, [], _∷_}
-use Prim.Native.Nat.{ℕ, zero, suc, _+_, _-_, _*_, _≤_, _<_}
+use Prim.Native.Nat.{ℕ, zero, suc, _+_, _*_}
 use native.Mathlib.Omega.{arith}
 use lib.Dec.{leb, ltb}
 use lib.ListN.{drop, length}
 use Rattle.model.specs.declared.Ty.{Ty}
-use Rattle.model.specs.Expressions.{Exp, Read, bad, got, after, readMany, expression, sizeOf, Scope, typeOf, typeAt}
-use Rattle.model.specs.Rules.{Pattern, Action, nothing, bare, send, Rule, readPattern, readAction, readRule, ruleRead, isWhole, sizeOfPattern, patternsSize, sizeOfAction, actionsSize, Fit, fits, fails, also, fitIf, hasType, patternsFit, guardFits, actionFits, actionsFit, scopeOf, ruleFits, isFit}
+use Rattle.model.specs.Expressions.{Read, bad, got, after, readMany, expression, sizeOf, Scope, typeAt}
+use Rattle.model.specs.Rules.{Pattern, Action, nothing, bare, send, readPattern, readAction, readRule, ruleRead, isWhole, sizeOfPattern, patternsSize, sizeOfAction, actionsSize, Fit, fits, fails, also, patternsFit, actionFits, actionsFit, scopeOf, ruleFits, isFit}
 use Rattle.model.specs.NetworkFile.{faultOf, ruleIn, ruleForm, ruleLimits, ruleTypes}
 use Rattle.model.proofs.Tests.{and₅}
 use Rattle.expressions.specs.Reading.{limitsRead}
@@ -18,10 +18,9 @@ use Rattle.expressions.proofs.Parts.{size-is}
 use Rattle.shapes.specs.declared.Arity.{Arity}
 use Rattle.shapes.specs.Shapes.{typesIn, shapeIn}
 use Rattle.rules.specs.declared.Parts.{Parts}
-use Rattle.rules.specs.declared.Layout.{Layout}
 use Rattle.rules.specs.declared.Layout.the-variants as layout
 use Rattle.rules.specs.Bodies.{patternCodes, actionCodes, patternsFrom, actionsFrom, limitsOf, layoutOf}
-use Rattle.rules.proofs.Laying.{isLaid, form-is, Laid, laid, ruleIs, rule-read, rule-limits}
+use Rattle.rules.proofs.Laying.{isLaid, form-is, Laid, ruleIs, rule-read, rule-limits}
 use Rattle.typing.specs.declared.Fitting.the-variants.{Fits, Fails}
 use Rattle.typing.specs.Fits.{fittingOf, isRead, listRead, expRead, scopeRead, expressionsFit, Agree, Kept}
 use Rattle.typing.specs.RuleFault.{ruleFault}

@@ -1,14 +1,14 @@
 -- What fits in a rule's body, as it is read.
 -- Assumes nothing.
-use Prim.Native.Nat.{ℕ, _+_, _-_, _*_, _≤_, _<_}
+use Prim.Native.Nat.{ℕ, _-_, _*_, _<_}
 use mathlib.Core.Path.{_≡_}
 use mathlib.Core.Bool.{Bool, true, false, cond}
-use mathlib.Core.List.{List, [], _∷_}
+use mathlib.Core.List.{List, []}
 use lib.Dec.{leb}
 use lib.ListN.{getD, drop}
 use Rattle.model.specs.declared.Ty.{Ty}
 use Rattle.model.specs.Values.{noType, inPrecision}
-use Rattle.model.specs.Expressions.{Exp, Read, bad, got, expression, nothingRead, typeAt, Scope, Typed, ill, typeOf}
+use Rattle.model.specs.Expressions.{Exp, Read, bad, got, expression, nothingRead, typeAt, Scope, typeOf}
 use Rattle.model.specs.Rules.{Pattern, matchedTypes, Action, send, bareAction, sentTag, holdsExpression, Fit, fits, fails, also, guardFits, actionsFit}
 use Rattle.expressions.specs.Reading.{limitsRead}
 use Rattle.shapes.specs.Shapes.{typesIn}

@@ -1,5 +1,4 @@
 use mathlib.Core.Path.{sym, _∙_}
-use native.Mathlib.Omega.{arith}
 use Rattle.rules.proofs.Laying.{lay-1, lay-2, lay-3, lay-4, lay-5, lay-6, lay-7}
 use borrow.Author.Needs.{needs}
 use Rattle.rules.proofs.parts_of.Statement.{statement}
