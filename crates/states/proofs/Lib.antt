@@ -1,0 +1,2 @@
+-- Laws of whole states.
+pub mod Loads

@@ -1,0 +1,1 @@
+-- What the contracts of states cite beside the model.
