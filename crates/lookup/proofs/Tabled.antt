@@ -5,6 +5,7 @@ use mathlib.Core.Bool.{Bool, true, false, cond}
 use mathlib.Core.List.{List, []}
 use Prim.Native.Nat.{ℕ, _+_, _-_, _≤_, _<_}
 use native.Mathlib.Omega.{arith}
+use native.Mathlib.Decide.{decLt}
 use lib.Dec.{ltb}
 use lib.ListN.{length, getD}
 use borrow.Author.Tests.{lt-ltb, le-ltb}
@@ -71,3 +72,32 @@ module _ (s t : List ℕ) (c : Counts) (h : Tabled s t c) where
   -- the box's field lies in the file
   pub box-inside : (b : ℕ) → b < c .boxes → InFile s (getD t (64 + b) 0)
   box-inside b l = rw (← box-entry b l) ((valid .boxes b (omega (arith, n-boxes))) .in-file)
+
+  n-rules : length (x .rules) ≡ c .rules
+  unfolding indexIn
+  n-rules = region-length 128 (c .rules) t (omega (arith, h .long, h .within .rules, h .within .boxes, h .within .inbox, h .within .inboxes))
+
+  -- where the rules of box b end, and how many it has
+  pub rules-end : (b : ℕ) → rulesEnd x b ≡ cond (ltb (b + 1) (c .boxes)) (getD t (97 + b) 0) (c .rules)
+  unfolding rulesEnd
+  rules-end b = rw n-boxes (by-place (decLt (b + 1) (c .boxes)))
+    where
+      by-place : Dec (b + 1 < c .boxes) → cond (ltb (b + 1) (c .boxes)) (getD (x .firsts) (b + 1) 0) (length (x .rules)) ≡ cond (ltb (b + 1) (c .boxes)) (getD t (97 + b) 0) (c .rules)
+      by-place (yes g) = rw (lt-ltb (b + 1) (c .boxes) g, first-entry (b + 1) g) (ap (λ (i : ℕ). getD t i 0) (omega arith))
+      by-place (no f) = rw (le-ltb (b + 1) (c .boxes) (omega (arith, f)), n-rules) refl
+
+  pub rules-in : (b : ℕ) → b < c .boxes → rulesIn t (c .boxes) (c .rules) b ≡ rulesEnd x b - getD (x .firsts) b 0
+  unfolding rulesIn
+  rules-in b l = rw (rules-end b, first-entry b l) refl
+
+  module _ (b r : ℕ) (l : b < c .boxes) (m : r < rulesIn t (c .boxes) (c .rules) b) where
+    pub rule-known : getD (x .firsts) b 0 + r < rulesEnd x b
+    rule-known = omega (arith, m, rules-in b l)
+
+    -- the entry of rule r of box b, and its field in the file
+    pub rule-entry : ruleAt x b r ≡ ruleEntry t b r
+    unfolding ruleAt ruleEntry indexIn
+    rule-entry = region-at 128 (c .rules) t (getD (x .firsts) b 0 + r) (omega (arith, rule-known, valid .ends b (omega (arith, n-boxes, l)), n-rules)) ∙ rw (first-entry b l) refl
+
+    pub rule-inside : InFile s (ruleEntry t b r)
+    rule-inside = rw (← rule-entry) ((valid .rules b r (omega (arith, n-boxes, l)) rule-known) .in-file)

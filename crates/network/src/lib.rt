@@ -1,10 +1,16 @@
 // The whole check of a network file: 2 for its length, then the fields, then the ports.
 use index::Checked;
+use model::ProcessId;
+use model::RuleId;
+use table::Counts;
 ghost use mathlib.Core.Path.{_≡_};
 ghost use Prim.Native.Nat.{_≤_};
 ghost use lib.ListN.{length};
 ghost use Rattle.model.specs.NetworkFile.{network};
+ghost use Rattle.model.specs.Calls.{bodyCall};
+ghost use Rattle.octets.specs.Part.{PartOf};
 ghost use Rattle.index.specs.Verdicts.{verdictIn, Fit};
+ghost use Rattle.lookup.specs.Tabled.{Tabled};
 
 // What the check finds. Of an accepted file the table holds where each field stands.
 pub fn checked(net: &[u8], tab: &mut [u16]) -> Checked
@@ -31,4 +37,33 @@ pub fn checked(net: &[u8], tab: &mut [u16]) -> Checked
         };
     }
     r
+}
+
+// The body of rule r of box b by an accepted file's table; empty at the file's end where there is none.
+fn body_in<'a>(net: &'a [u8], table: &[u16], c: Counts, b: ProcessId, r: RuleId) -> &'a [u8]
+    requires { ⌜ Tabled (now net) (now table) c ⌝ }
+    ensures { λ x. ⌜ PartOf (net .entry) ((bodyCall (now (net .entry)) (b .0) (r .0)) .start) ((bodyCall (now (net .entry)) (b .0) (r .0)) .len) x ⌝ }
+{
+    let end = net.len();
+    let boxes = c.boxes;
+    if boxes <= octets::wide(b.0) {
+        return octets::part(net, end, 0);
+    }
+    let rules = lookup::rules_of(table, boxes, c.rules, b);
+    if rules <= octets::wide(r.0) {
+        return octets::part(net, end, 0);
+    }
+    lookup::rule_body(net, table, b, r)
+}
+
+// The body of rule r of box b, that very part of the file; empty at the file's end for an unknown box or rule and for a refused network.
+pub fn rule_body<'a>(net: &'a [u8], b: ProcessId, r: RuleId) -> &'a [u8]
+    ensures { λ x. ⌜ PartOf (net .entry) ((bodyCall (now (net .entry)) (b .0) (r .0)) .start) ((bodyCall (now (net .entry)) (b .0) (r .0)) .len) x ⌝ }
+{
+    let mut table = [0u16; 656];
+    let Checked::Good(c) = checked(net, &mut table) else {
+        let end = net.len();
+        return octets::part(net, end, 0);
+    };
+    body_in(net, &table, c, b, r)
 }
