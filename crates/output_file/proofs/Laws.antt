@@ -1,19 +1,17 @@
 -- The output file, field by field.
 -- Assumes nothing.
 use Prim.Native.Nat.{ℕ, zero, suc, _+_, _-_, _*_, _≤_, _<_}
-use mathlib.Core.Path.{_≡_, refl, sym, ap, ap₂, _∙_, subst}
-use mathlib.Core.Bool.{Bool, true, false, _&&_}
+use mathlib.Core.Path.{_≡_, refl, sym, ap, ap₂, _∙_}
+use mathlib.Core.Bool.{Bool, true, false}
 use mathlib.Core.List.{List, [], _∷_, _++_, map, zipWith, append-assoc, append-nil}
 use native.Mathlib.Omega.{arith}
 use native.Mathlib.Numerals.{add-one}
-use lib.ListN.{length, getD, take, drop, length-append, length-map, length-drop, drop-of-length-le, take-append-drop}
+use lib.ListN.{length, getD, take, drop, length-append, length-map, length-drop, drop-of-length-le}
 use lib.Seq.{take-add, take-all, take-at, drop-at, drop-cons, drop-drop, drop-append-seam, take-append-seam, length-take-le, getD-take, getD-drop}
-use borrow.Rule.Slice.PartMut.{mid-len}
-use Rattle.model.specs.declared.Ty.{Ty}
 use Rattle.model.specs.Bytes.{twoAt}
-use Rattle.model.specs.Network.{Proc, box, input, output, Net, proc, wire, nobody}
-use Rattle.model.specs.NetworkFile.{Index, tabulate, boxAt, inputAt, outputAt, netOf}
-use Rattle.model.specs.States.{ownSize, wiresSize, stateSize, sum, cat, split, ownIn, readTokens, roomFits, ownFits, stateFits, stateIn, outputField, outputFile}
+use Rattle.model.specs.Network.{Proc, box, output, Net, proc, wire, nobody}
+use Rattle.model.specs.NetworkFile.{Index, boxAt, inputAt, outputAt, netOf}
+use Rattle.model.specs.States.{ownSize, wiresSize, sum, cat, split, ownIn, readTokens, roomFits, ownFits, stateFits, stateIn, outputField, outputFile}
 use Rattle.model.proofs.Tests.{and-left, and-right}
 use Rattle.model.proofs.Decoded.{length-tabulate, getD-map-lt}
 use Rattle.model.proofs.Lookup.{output-proc, procs-length}
@@ -152,11 +150,11 @@ module _ (s t p st : List ℕ) (c : Counts) (h : Saved s t p st c) (o : Octets s
 
 -- ── the whole file ───────────────────────────────────────────────────────────────────────────
 
-pub procs-total : (s t : List ℕ) (c : Counts) → Tabled s t c → length ((netOf s (indexIn t c) []) .procs) ≡ c .boxes + c .inputs + c .outputs
+procs-total : (s t : List ℕ) (c : Counts) → Tabled s t c → length ((netOf s (indexIn t c) []) .procs) ≡ c .boxes + c .inputs + c .outputs
 procs-total s t c h = procs-length s (indexIn t c) [] ∙ omega (arith, n-boxes s t c h, n-inputs s t c h, n-outputs s t c h)
 
 -- the fields of the outputs are all of it
-pub file-all : (s t st : List ℕ) (c : Counts) → Tabled s t c → outputFile (netOf s (indexIn t c) []) (stateIn (netOf s (indexIn t c) []) st) ≡ fileFrom (netOf s (indexIn t c) []) st (c .boxes + c .inputs)
+file-all : (s t st : List ℕ) (c : Counts) → Tabled s t c → outputFile (netOf s (indexIn t c) []) (stateIn (netOf s (indexIn t c) []) st) ≡ fileFrom (netOf s (indexIn t c) []) st (c .boxes + c .inputs)
 unfolding fileFrom ownStart netOf
 file-all s t st c h =
     let y : Index = indexIn t c in
@@ -168,30 +166,74 @@ file-all s t st c h =
     ∙ start-all (map ownSize front) k (omega (arith, length-map front ownSize, long)) in
     file-net s y [] st ∙ sym (ap₂ (λ (ps : List Proc) (m : ℕ). fileOf ps (drop (wiresSize (netOf s y []) + m) st)) (drop-at front (outputsOf s y) k long) start)
 
--- one field written behind those before it
-module _ (file out₀ out f rest : List ℕ) (at n : ℕ) (e : out ≡ take at file ++ drop at out₀) (d : drop at file ≡ f ++ rest) (l : at ≤ length file) (m : length file ≤ n) (z : n ≡ length out₀) where
-  pub field-room : at + length f ≤ length file
-  field-room = omega (arith, length-drop at file, ap (λ (x : List ℕ). length x) d, length-append f rest, l)
+-- the same, told of the network without tokens
+module _ (s t st : List ℕ) (c : Counts) (h : Tabled s t c) where
+  pub is-process : (k : ℕ) → k < c .boxes + c .inputs + c .outputs → k < length ((bareNet s t c) .procs)
+  unfolding bareNet
+  is-process k l = omega (arith, procs-total s t c h, l)
 
-  pub field-next : drop (at + length f) file ≡ rest
-  field-next = sym (drop-drop (length f) at file) ∙ ap (drop (length f)) d ∙ drop-append-seam f rest
+  pub no-process : (k : ℕ) → c .boxes + c .inputs + c .outputs ≤ k → length ((bareNet s t c) .procs) ≤ k
+  unfolding bareNet
+  no-process k l = omega (arith, procs-total s t c h, l)
 
-  pub field-write : (r : ℕ) (last : List ℕ) → r ≡ length f → last ≡ f ++ drop (length f) (mid at (n - at) out) → putMid at (n - at) out last ≡ take (at + r) file ++ drop (at + r) out₀
-  field-write r last g q =
-      let front : length (take at file) ≡ at = length-take-le at file l in
-      let back : drop at out ≡ drop at out₀ = ap (drop at) e ∙ drop-at (take at file) (drop at out₀) at front in
-      let start : take at out ≡ take at file = ap (take at) e ∙ take-at (take at file) (drop at out₀) at front in
-      let few : length (drop at out₀) ≤ n - at = omega (arith, length-drop at out₀, z) in
-      let one : mid at (n - at) out ≡ drop at out₀ = ap (take (n - at)) back ∙ take-all (n - at) (drop at out₀) few in
-      let none : drop (n - at) (drop at out) ≡ [] = ap (drop (n - at)) back ∙ drop-of-length-le (drop at out₀) few in
-      let more : take (at + length f) file ≡ take at file ++ f = take-add at (length f) file ∙ ap (λ (y : List ℕ). take at file ++ y) (ap (take (length f)) d ∙ take-append-seam f rest) in
-      ap₂ (λ (u v : List ℕ). u ++ v) start
-      (ap₂ (λ (u v : List ℕ). u ++ v) (q ∙ ap (λ (y : List ℕ). f ++ drop (length f) y) one) none ∙ append-nil (f ++ drop (length f) (drop at out₀)) ∙ ap (λ (y : List ℕ). f ++ y) (drop-drop (length f) at out₀))
-      ∙ sym (append-assoc (take at file) f (drop (at + length f) out₀)) ∙ ap (λ (y : List ℕ). y ++ drop (at + length f) out₀) (sym more)
-      ∙ ap (λ (j : ℕ). take (at + j) file ++ drop (at + j) out₀) (sym g)
+  pub bare-file : outputFile (bareNet s t c) (stateIn (bareNet s t c) st) ≡ fileFrom (bareNet s t c) st (c .boxes + c .inputs)
+  unfolding bareNet
+  bare-file = file-all s t st c h
 
--- all written
-pub file-whole : (file out₀ out : List ℕ) (at : ℕ) → out ≡ take at file ++ drop at out₀ → drop at file ≡ [] → at ≤ length file → out ≡ file ++ drop (length file) out₀
-file-whole file out₀ out at e d l =
-    let z : at ≡ length file = omega (arith, length-drop at file, ap (λ (x : List ℕ). length x) d, l) in
-    e ∙ ap (λ (j : ℕ). take j file ++ drop j out₀) z ∙ ap (λ (y : List ℕ). y ++ drop (length file) out₀) (take-all (length file) file (omega arith))
+  pub room-for : (out : List ℕ) → length (outputFile (bareNet s t c) (stateIn (bareNet s t c) st)) ≤ length out → length (fileFrom (bareNet s t c) st (c .boxes + c .inputs)) ≤ length out
+  room-for out l = omega (arith, l, ap (λ (x : List ℕ). length x) bare-file)
+
+-- ── the file, written ────────────────────────────────────────────────────────────────────────
+
+-- the first at bytes of the file are written, and the fields of the processes from k on are left
+pub record Written (n : Net) (st : List ℕ) (first : ℕ) (out₀ out : List ℕ) (at k : ℕ) : Type 0 where
+  pub few : at ≤ length (fileFrom n st first)
+  pub front : out ≡ take at (fileFrom n st first) ++ drop at out₀
+  pub left : drop at (fileFrom n st first) ≡ fileFrom n st k
+
+pub written-first : (n : Net) (st : List ℕ) (first : ℕ) (out₀ : List ℕ) → Written n st first out₀ out₀ 0 first
+written-first n st first out₀ = record { few = omega arith; front = refl; left = refl }
+
+module _ (n : Net) (st : List ℕ) (first : ℕ) (out₀ out : List ℕ) (at k : ℕ) (w : Written n st first out₀ out at k) where
+  abbrev file : List ℕ
+  file = fileFrom n st first
+
+  abbrev f : List ℕ
+  f = fieldOn n st k
+
+  left-is : k < length (n .procs) → drop at file ≡ f ++ fileFrom n st (k + 1)
+  left-is l = w .left ∙ file-turn n st k l
+
+  field-in-file : k < length (n .procs) → at + length f ≤ length file
+  field-in-file l = omega (arith, length-drop at file, ap (λ (x : List ℕ). length x) (left-is l), length-append f (fileFrom n st (k + 1)), w .few)
+
+  -- there is room for the field
+  pub written-room : k < length (n .procs) → length file ≤ length out₀ → at + length f ≤ length out₀
+  written-room l m = omega (arith, field-in-file l, m)
+
+  -- the field of process k behind those before it
+  pub written-next : (r : ℕ) (last : List ℕ) → k < length (n .procs) → length file ≤ length out₀ → r ≡ length f → last ≡ f ++ drop (length f) (mid at (length out₀ - at) out) →
+      Written n st first out₀ (putMid at (length out₀ - at) out last) (at + r) (k + 1)
+  written-next r last l m g q =
+      let z : ℕ = length out₀ - at in
+      let long : length (take at file) ≡ at = length-take-le at file (w .few) in
+      let back : drop at out ≡ drop at out₀ = ap (drop at) (w .front) ∙ drop-at (take at file) (drop at out₀) at long in
+      let start : take at out ≡ take at file = ap (take at) (w .front) ∙ take-at (take at file) (drop at out₀) at long in
+      let few : length (drop at out₀) ≤ z = omega (arith, length-drop at out₀) in
+      let one : mid at z out ≡ drop at out₀ = ap (take z) back ∙ take-all z (drop at out₀) few in
+      let none : drop z (drop at out) ≡ [] = ap (drop z) back ∙ drop-of-length-le (drop at out₀) few in
+      let more : take (at + length f) file ≡ take at file ++ f = take-add at (length f) file ∙ ap (λ (y : List ℕ). take at file ++ y) (ap (take (length f)) (left-is l) ∙ take-append-seam f (fileFrom n st (k + 1))) in
+      record {
+        few = omega (arith, field-in-file l, g);
+        front = ap₂ (λ (u v : List ℕ). u ++ v) start
+            (ap₂ (λ (u v : List ℕ). u ++ v) (q ∙ ap (λ (y : List ℕ). f ++ drop (length f) y) one) none ∙ append-nil (f ++ drop (length f) (drop at out₀)) ∙ ap (λ (y : List ℕ). f ++ y) (drop-drop (length f) at out₀))
+            ∙ sym (append-assoc (take at file) f (drop (at + length f) out₀)) ∙ ap (λ (y : List ℕ). y ++ drop (at + length f) out₀) (sym more)
+            ∙ ap (λ (j : ℕ). take (at + j) file ++ drop (at + j) out₀) (sym g);
+        left = ap (λ (j : ℕ). drop (at + j) file) g ∙ sym (drop-drop (length f) at file) ∙ ap (drop (length f)) (left-is l) ∙ drop-append-seam f (fileFrom n st (k + 1));
+      }
+
+  -- all written
+  pub written-last : length (n .procs) ≤ k → out ≡ file ++ drop (length file) out₀
+  written-last l =
+      let z : at ≡ length file = omega (arith, length-drop at file, ap (λ (x : List ℕ). length x) (w .left ∙ file-done n st k l), w .few) in
+      w .front ∙ ap (λ (j : ℕ). take j file ++ drop j out₀) z ∙ ap (λ (y : List ℕ). y ++ drop (length file) out₀) (take-all (length file) file (omega arith))

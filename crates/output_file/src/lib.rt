@@ -10,7 +10,14 @@ ghost use Rattle.places.specs.Standing.{bareNet};
 ghost use Rattle.output_file.specs.Files.{fieldOn, Saved, IsOutput};
 
 // How many bytes the field of output k takes.
-fn field_size(net: &[u8], table: &[u16], c: Counts, starts: &[u16], k: ProcessId, state: &[u8]) -> usize
+fn field_size(
+    net: &[u8],
+    table: &[u16],
+    c: Counts,
+    starts: &[u16],
+    k: ProcessId,
+    state: &[u8],
+) -> usize
     requires { ⌜ Saved (now net) (now table) (now starts) (now state) c ⌝ }
     requires { ⌜ IsOutput c (k .0) ⌝ }
     ensures { λ r. ⌜ (r ≡ length (fieldOn (bareNet (now (net .entry)) (now (table .entry)) c) (now (state .entry)) (k .0))) × (r ≤ 5003) ⌝ }
@@ -36,7 +43,15 @@ pub fn output_size(net: &[u8], table: &[u16], c: Counts, starts: &[u16], state: 
 }
 
 // The field of output k, written at the start. Answers the bytes written.
-fn write_field(net: &[u8], table: &[u16], c: Counts, starts: &[u16], k: ProcessId, state: &[u8], out: &mut [u8]) -> usize
+fn write_field(
+    net: &[u8],
+    table: &[u16],
+    c: Counts,
+    starts: &[u16],
+    k: ProcessId,
+    state: &[u8],
+    out: &mut [u8],
+) -> usize
     requires { ⌜ Saved (now net) (now table) (now starts) (now state) c ⌝ }
     requires { ⌜ IsOutput c (k .0) ⌝ }
     requires { ⌜ length (fieldOn (bareNet (now net) (now table) c) (now state) (k .0)) ≤ length (now out) ⌝ }
@@ -49,7 +64,14 @@ fn write_field(net: &[u8], table: &[u16], c: Counts, starts: &[u16], k: ProcessI
 }
 
 // The output file, written at the buffer's start. Bytes beyond it stay.
-pub fn write_file(net: &[u8], table: &[u16], c: Counts, starts: &[u16], state: &[u8], out: &mut [u8])
+pub fn write_file(
+    net: &[u8],
+    table: &[u16],
+    c: Counts,
+    starts: &[u16],
+    state: &[u8],
+    out: &mut [u8],
+)
     requires { ⌜ Saved (now net) (now table) (now starts) (now state) c ⌝ }
     requires { ⌜ length (outputFile (bareNet (now net) (now table) c) (stateIn (bareNet (now net) (now table) c) (now state))) ≤ length (now out) ⌝ }
     ensures { λ _. ⌜ now (out .exit) ≡ outputFile (bareNet (now (net .entry)) (now (table .entry)) c) (stateIn (bareNet (now (net .entry)) (now (table .entry)) c) (now (state .entry))) ++ drop (length (outputFile (bareNet (now (net .entry)) (now (table .entry)) c) (stateIn (bareNet (now (net .entry)) (now (table .entry)) c) (now (state .entry))))) (now (out .entry)) ⌝ }
@@ -60,7 +82,15 @@ pub fn write_file(net: &[u8], table: &[u16], c: Counts, starts: &[u16], state: &
     let mut at: usize = 0;
     let mut k = first;
     while k < total {
-        at += write_field(net, table, c, starts, ProcessId(k as u8), state, &mut out[at..n]);
+        at += write_field(
+            net,
+            table,
+            c,
+            starts,
+            ProcessId(k as u8),
+            state,
+            &mut out[at..n],
+        );
         k += 1;
     }
 }

@@ -3,7 +3,7 @@
 use Prim.Native.Nat.{ℕ, zero, suc, _+_, _-_, _*_, _≤_, _<_}
 use mathlib.Core.Path.{_≡_, refl, sym, ap, ap₂, _∙_}
 use mathlib.Core.Bool.{Bool, true, false, not, _&&_, _||_}
-use mathlib.Core.List.{List, [], _∷_, _++_, map, zipWith, append-assoc, append-nil}
+use mathlib.Core.List.{List, [], _++_, map, zipWith, append-assoc, append-nil}
 use native.Mathlib.Omega.{arith}
 use native.Mathlib.Nat.{add-sub-cancel-left}
 use lib.Dec.{leb}
@@ -13,7 +13,7 @@ use Rattle.model.specs.declared.Ty.{Ty}
 use Rattle.model.specs.declared.Token.{Token}
 use Rattle.model.specs.Bytes.{twoAt}
 use Rattle.model.specs.Network.{Wire, Proc, box, input, output, Net, wire, proc, noWire, nobody}
-use Rattle.model.specs.NetworkFile.{Index, tabulate, bodyAt, wireOf, boxOf, boxAt, inputAt, outputAt, netOf}
+use Rattle.model.specs.NetworkFile.{Index, tabulate, bodyAt, wireOf, boxOf, inputAt, outputAt, netOf}
 use Rattle.model.specs.States.{tokensIn, wireSize, ownSize, wiresSize, sum, roomFits, wireFits, valuesFit, ownFits, split, allTrue, stateFits}
 use Rattle.model.proofs.Decoded.{getD-map-lt}
 use Rattle.model.proofs.Lookup.{wires-length, procs-length, box-proc, input-proc, output-proc}
@@ -29,7 +29,7 @@ use Rattle.tokens.proofs.Groups.{fits-input}
 use Rattle.places.specs.Standing.{bareNet, tokensOf, netIn}
 use Rattle.places.proofs.Standing.{own-sizes}
 use Rattle.token_file.proofs.Ends.{wire-is, wire-fine, output-in}
-use Rattle.states.specs.Saved.{Known, FieldIn, wiresFit, ownsFit}
+use Rattle.states.specs.Saved.{Known, wiresFit, ownsFit}
 
 -- ── the loops ────────────────────────────────────────────────────────────────────────────────
 

@@ -1,6 +1,6 @@
 -- The check of a saved state: what is known of the token file, and what of the state is still to be looked at.
 -- Assumes nothing.
-use Prim.Native.Nat.{ℕ, _+_}
+use Prim.Native.Nat.{ℕ}
 use mathlib.Core.Path.{_≡_}
 use mathlib.Core.Bool.{Bool, true}
 use mathlib.Core.List.{List, map, zipWith}

@@ -5,7 +5,7 @@ use native.Mathlib.Omega.{arith}
 use lib.ListN.{length, length-append}
 use Rattle.places.specs.Standing.{bareNet}
 use Rattle.output_file.specs.Files.{fieldOn, fileFrom}
-use Rattle.output_file.proofs.Laws.{procs-total, file-turn, file-done, file-all}
+use Rattle.output_file.proofs.Laws.{is-process, no-process, bare-file, file-turn, file-done}
 use Rattle.output_file.proofs.output_size.Statement.{statement}
 use Rattle.output_file.proofs.output_size.Tie as tie
 
@@ -56,19 +56,16 @@ loop-again c =
     let l = c .before .before .loop in
     let less = c .before .loop-test .taken in
     let n = (bareNet (start .args .net .now) (start .args .table .now) (start .args .c)) in
-    let long = procs-total (start .args .net .now) (start .args .table .now) (start .args .c) (start .pre .tabled) in
-    let turn = file-turn n (start .args .state .now) (l .k) (unfold bareNet in omega (arith, less, long)) in
+    let turn = file-turn n (start .args .state .now) (l .k) (is-process (start .args .net .now) (start .args .table .now) (start .args .state .now) (start .args .c) (start .pre .tabled) (l .k) less) in
     let sum = ap (λ (x : List ℕ). length x) turn ∙ length-append (fieldOn n (start .args .state .now) (l .k)) (fileFrom n (start .args .state .now) (l .k + 1)) in
     (omega (arith, l .inv .0), omega (arith, less), omega (arith, l .inv .0, l .inv .2, c .field-size .ensures .1), omega (arith, sum, l .inv .3, c .field-size .ensures .0))
 
 returns : tie.Need-returns Inv-loop μ-loop
-unfolding bareNet
 returns c =
     let start = c .before .before .before .before .before .before .before .before in
     let l = c .before .loop in
-    let long = procs-total (start .args .net .now) (start .args .table .now) (start .args .c) (start .pre .tabled) in
-    let none = ap (λ (x : List ℕ). length x) (file-done (bareNet (start .args .net .now) (start .args .table .now) (start .args .c)) (start .args .state .now) (l .k) (unfold bareNet in omega (arith, c .loop-test .left, long))) in
-    let all = ap (λ (x : List ℕ). length x) (file-all (start .args .net .now) (start .args .table .now) (start .args .state .now) (start .args .c) (start .pre .tabled)) in
+    let none = ap (λ (x : List ℕ). length x) (file-done (bareNet (start .args .net .now) (start .args .table .now) (start .args .c)) (start .args .state .now) (l .k) (no-process (start .args .net .now) (start .args .table .now) (start .args .state .now) (start .args .c) (start .pre .tabled) (l .k) (c .loop-test .left))) in
+    let all = ap (λ (x : List ℕ). length x) (bare-file (start .args .net .now) (start .args .table .now) (start .args .state .now) (start .args .c) (start .pre .tabled)) in
     (omega (arith, l .inv .3, none)) ∙ sym all
 
 pub output-size-spec : {M : Type 1} → statement M

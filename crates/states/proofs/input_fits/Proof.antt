@@ -1,5 +1,5 @@
 use borrow.Author.Needs.{needs}
-use borrow.Author.Tests.{not-true, not-false}
+use borrow.Author.Tests.{not-false}
 use Rattle.states.proofs.Fits.{input-said}
 use Rattle.states.proofs.input_fits.Statement.{statement}
 use Rattle.states.proofs.input_fits.Tie as tie
