@@ -74,7 +74,7 @@ unfolding tabulate
 map-alike f zero g h e = refl
 map-alike {B = B} f (suc k) g h e = ap₂ (λ (y : B) (l : List B). y ∷ l) (e 0) (map-alike f k (λ i. g (suc i)) (λ i. h (suc i)) (λ i. e (suc i)))
 
-own-sizes : (s : List ℕ) (y : Index) (tokens : List (List Token)) → map ownSize ((netOf s y tokens) .procs) ≡ map ownSize ((netOf s y []) .procs)
+pub own-sizes : (s : List ℕ) (y : Index) (tokens : List (List Token)) → map ownSize ((netOf s y tokens) .procs) ≡ map ownSize ((netOf s y []) .procs)
 unfolding netOf
 own-sizes s y tokens =
     let bs = tabulate (length (y .boxes)) (λ k. box (boxAt s y k)) in

@@ -1,2 +1,3 @@
 -- Laws of whole states.
 pub mod Loads
+pub mod Fits

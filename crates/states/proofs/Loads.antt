@@ -2,10 +2,10 @@
 -- Assumes nothing.
 use Prim.Native.Nat.{ℕ, zero, suc, _+_, _-_, _*_, _≤_, _<_}
 use mathlib.Core.Path.{_≡_, refl, sym, ap, ap₂, _∙_}
-use mathlib.Core.List.{List, [], _∷_, _++_, map, append-assoc, append-nil}
+use mathlib.Core.List.{List, [], _++_, map, append-assoc, append-nil}
 use native.Mathlib.Omega.{arith}
 use native.Mathlib.Nat.{add-sub-cancel-left, not-suc-le-zero, le-of-suc-le-suc}
-use lib.ListN.{length, getD, take, drop, replicate, length-append, length-replicate, replicate-append-replicate}
+use lib.ListN.{length, getD, take, drop, replicate, length-replicate, replicate-append-replicate}
 use lib.Seq.{drop-at, length-take-le}
 use Rattle.model.specs.declared.Token.{Token}
 use Rattle.model.specs.Network.{Proc, box, Net, proc, fresh, loaded}
@@ -21,7 +21,6 @@ use Rattle.lookup.proofs.Tabled.{n-boxes, box-entry}
 use Rattle.tokens.proofs.Lifts.{load-box}
 use Rattle.tokens.proofs.Turns.{freshBytes, boxesOf, inputsOf, outputsOf}
 use Rattle.tokens.proofs.Groups.{loadedTo, load-turn, load-net, size-net, sizes-snoc, input-sizes}
-use Rattle.places.specs.Standing.{bareNet}
 
 -- the first j of a numbered group begin the sizes of all
 group-start : {A : Type 0} (size : A → ℕ) (n : ℕ) (f : ℕ → A) (rest : List A) (j : ℕ) → j ≤ n → startOf (map size (tabulate n f ++ rest)) j ≡ sum (map size (tabulate j f))

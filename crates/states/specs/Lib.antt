@@ -1,1 +1,2 @@
 -- What the contracts of states cite beside the model.
+pub mod Saved

@@ -1,12 +1,12 @@
 -- The wires of an accepted network, and those that its inputs and outputs name, read off the table.
 -- Assumes nothing.
 use Prim.Native.Nat.{ℕ, _+_, _≤_, _<_}
-use mathlib.Core.Path.{_≡_, refl, sym, ap, _∙_, subst}
+use mathlib.Core.Path.{_≡_, ap, _∙_, subst}
 use mathlib.Core.List.{List, []}
 use native.Mathlib.Omega.{arith}
 use lib.ListN.{length, getD}
 use Rattle.model.specs.Bytes.{twoAt}
-use Rattle.model.specs.Network.{Wire, Proc, Net, wire, proc}
+use Rattle.model.specs.Network.{Net, wire, proc}
 use Rattle.model.specs.NetworkFile.{Index, wireOf, inputAt, outputAt, netOf}
 use Rattle.model.proofs.Decoded.{GoodWire, GoodProc}
 use Rattle.model.proofs.Lookup.{wire-at, input-proc, output-proc, wires-length, procs-length}

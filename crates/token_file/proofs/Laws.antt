@@ -1,13 +1,12 @@
 -- The fields of a token file, one after another.
 -- Assumes nothing.
-use Prim.Native.Nat.{ℕ, zero, suc, _+_, _-_, _*_, _/_, _%_, _≤_, _<_}
-use mathlib.Core.Path.{_≡_, refl, sym, ap, ap₂, _∙_, subst}
+use Prim.Native.Nat.{ℕ, zero, suc, _+_, _*_, _/_, _≤_, _<_}
+use mathlib.Core.Path.{_≡_, refl, sym, ap, ap₂, _∙_}
 use mathlib.Core.Bool.{Bool, true, false}
 use mathlib.Core.List.{List, [], _∷_, _++_, map}
 use native.Mathlib.Omega.{arith}
 use native.Mathlib.Numerals.{add-one}
 use native.Mathlib.Decide.{ℕ-discrete}
-use lib.Dec.{leb}
 use lib.ListN.{length, getD, take, drop, set, length-set, length-take}
 use lib.Seq.{take-suc, take-set-le, getD-set-same, getD-set-other, getD-take, getD-drop, drop-drop}
 use borrow.Author.Tests.{le-leb, lt-leb}
@@ -18,19 +17,19 @@ use Rattle.model.specs.declared.Field.the-variants.{At, Cut}
 use Rattle.model.specs.Bytes.{twoAt, fourAt, valueAt, stretch}
 use Rattle.model.specs.Values.{noType}
 use Rattle.model.specs.Network.{Wire, Net, wire, noToken}
-use Rattle.model.specs.NetworkFile.{Index, Verdict, good, refuse, next, orRefuse, fieldAt, bodyAt, wireOf, tabulate, netOf}
+use Rattle.model.specs.NetworkFile.{good, refuse, orRefuse, fieldAt, bodyAt, wireOf, netOf}
 use Rattle.model.specs.States.{tokenAt, readTokens, tokenField, tokensIn, inputTokens, tokensFrom, tokenFile, inputTypes}
 use Rattle.model.proofs.Accepted.{InFile}
-use Rattle.model.proofs.Decoded.{GoodType, length-tabulate, getD-tabulate, getD-map-lt, stretch-at, length-body}
+use Rattle.model.proofs.Decoded.{length-tabulate, getD-tabulate, getD-map-lt, stretch-at, length-body}
 use Rattle.model.proofs.Sizes.{map-append}
 use Rattle.table.specs.declared.Counts.{Counts}
 use Rattle.table.specs.Table.{indexIn}
 use Rattle.lookup.specs.Tabled.{Tabled}
 use Rattle.lookup.proofs.Tabled.{n-inputs, input-entry}
 use Rattle.places.specs.Standing.{bareNet, found, tokensOf}
-use Rattle.tokens.proofs.Turns.{ahead, ahead-none, left, tokens-field, tokens-bad, tokens-cut, tokens-end, tokens-extra, input-types}
-use Rattle.tokens.proofs.Groups.{Inside, field-inside, length-tokens-in}
-use Rattle.token_file.specs.Fields.{fieldEnd, FieldOf, Fields, Checked, right, wrong}
+use Rattle.tokens.proofs.Turns.{ahead-none, left, tokens-field, tokens-bad, tokens-cut, tokens-end, tokens-extra, input-types}
+use Rattle.tokens.proofs.Groups.{field-inside, length-tokens-in}
+use Rattle.token_file.specs.Fields.{fieldEnd, Fields}
 use Rattle.token_file.proofs.Ends.{wire-is, wire-fine, input-in}
 
 -- ── one field ────────────────────────────────────────────────────────────────────────────────

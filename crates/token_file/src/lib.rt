@@ -67,8 +67,9 @@ pub fn token_file(net: &[u8], table: &[u16], c: Counts, tokens: &[u8], fields: &
         at = end;
         i += 1;
     }
-    if at != tokens.len() {
-        return Tokens::Bad { place: at };
+    let rest = at;
+    if rest != tokens.len() {
+        return Tokens::Bad { place: rest };
     }
     Tokens::Good
 }

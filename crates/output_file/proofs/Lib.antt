@@ -1,0 +1,2 @@
+-- Laws of the output file.
+pub mod Laws

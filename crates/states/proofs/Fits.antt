@@ -1,0 +1,222 @@
+-- The check of a saved state, wire by wire and process by process.
+-- Assumes nothing.
+use Prim.Native.Nat.{ℕ, zero, suc, _+_, _-_, _*_, _≤_, _<_}
+use mathlib.Core.Path.{_≡_, refl, sym, ap, ap₂, _∙_}
+use mathlib.Core.Bool.{Bool, true, false, not, _&&_, _||_}
+use mathlib.Core.List.{List, [], _++_, map, zipWith, append-assoc, append-nil}
+use native.Mathlib.Omega.{arith}
+use native.Mathlib.Nat.{add-sub-cancel-left}
+use lib.Dec.{leb}
+use lib.ListN.{length, getD, take, drop, length-map}
+use borrow.Rule.Slice.PartMut.{mid-len}
+use Rattle.model.specs.declared.Ty.{Ty}
+use Rattle.model.specs.declared.Token.{Token}
+use Rattle.model.specs.Bytes.{twoAt}
+use Rattle.model.specs.Network.{Wire, Proc, box, input, output, Net, wire, proc, noWire, nobody}
+use Rattle.model.specs.NetworkFile.{Index, tabulate, bodyAt, wireOf, boxOf, inputAt, outputAt, netOf}
+use Rattle.model.specs.States.{tokensIn, wireSize, ownSize, wiresSize, sum, roomFits, wireFits, valuesFit, ownFits, split, allTrue, stateFits}
+use Rattle.model.proofs.Decoded.{getD-map-lt}
+use Rattle.model.proofs.Lookup.{wires-length, procs-length, box-proc, input-proc, output-proc}
+use Rattle.table.specs.declared.Counts.{Counts}
+use Rattle.table.specs.Table.{indexIn}
+use Rattle.queues.specs.Segments.{mid, startOf, wireStart, ownStart}
+use Rattle.lookup.specs.Tabled.{Tabled}
+use Rattle.lookup.proofs.Tabled.{valid, n-wires, n-boxes, n-inputs, n-outputs, box-entry, output-entry}
+use Rattle.tokens.specs.Parts.{Precise}
+use Rattle.tokens.proofs.Lifts.{precise, fits-box, fits-output}
+use Rattle.tokens.proofs.Turns.{allFit, boxesOf, inputsOf, outputsOf, state-fits, fit-turn, fit-done, start-turn}
+use Rattle.tokens.proofs.Groups.{fits-input}
+use Rattle.places.specs.Standing.{bareNet, tokensOf, netIn}
+use Rattle.places.proofs.Standing.{own-sizes}
+use Rattle.token_file.proofs.Ends.{wire-is, wire-fine, output-in}
+use Rattle.states.specs.Saved.{Known, wiresFit, ownsFit}
+
+-- ── the loops ────────────────────────────────────────────────────────────────────────────────
+
+module _ (n : Net) (st : List ℕ) where
+  pub wires-turn : (w : ℕ) (r b : Bool) → w < length (n .wires) → r ≡ wireFits (wire n w) (mid (wireStart n w) (wireSize (wire n w)) st) → r ≡ b → wiresFit n w st ≡ (b && wiresFit n (w + 1) st)
+  unfolding wiresFit wireStart wire
+  wires-turn w r b l e g =
+      let sizes : List ℕ = map wireSize (n .wires) in
+      let m : startOf sizes w + wireSize (getD (n .wires) w noWire) ≡ startOf sizes (w + 1)
+      = omega (arith, start-turn sizes w (omega (arith, length-map (n .wires) wireSize)), getD-map-lt wireSize (n .wires) w noWire 0 l) in
+      fit-turn wireFits wireSize (n .wires) noWire st w (startOf sizes w) r b l e g ∙ rw m refl
+
+  pub wires-done : (w : ℕ) → length (n .wires) ≤ w → wiresFit n w st ≡ true
+  unfolding wiresFit
+  wires-done w l = fit-done wireFits wireSize (n .wires) (drop (wireStart n w) st) w l
+
+  module _ (counted : Bool) where
+    pub owns-turn : (k : ℕ) (r b : Bool) → k < length (n .procs) → r ≡ ownFits n counted (proc n k) (mid (ownStart n k) (ownSize (proc n k)) st) → r ≡ b → ownsFit n counted k st ≡ (b && ownsFit n counted (k + 1) st)
+    unfolding ownsFit ownStart proc
+    owns-turn k r b l e g =
+        let sizes : List ℕ = map ownSize (n .procs) in
+        let m : wiresSize n + startOf sizes k + ownSize (getD (n .procs) k nobody) ≡ wiresSize n + startOf sizes (k + 1)
+        = omega (arith, start-turn sizes k (omega (arith, length-map (n .procs) ownSize)), getD-map-lt ownSize (n .procs) k nobody 0 l) in
+        fit-turn (ownFits n counted) ownSize (n .procs) nobody st k (wiresSize n + startOf sizes k) r b l e g ∙ rw m refl
+
+    pub owns-done : (k : ℕ) → length (n .procs) ≤ k → ownsFit n counted k st ≡ true
+    unfolding ownsFit
+    owns-done k l = fit-done (ownFits n counted) ownSize (n .procs) (drop (ownStart n k) st) k l
+
+    -- all wires, then all processes
+    pub state-is : stateFits n counted st ≡ (wiresFit n 0 st && ownsFit n counted 0 st)
+    unfolding wiresFit ownsFit wireStart ownStart startOf sum
+    state-is = state-fits n counted st ∙ (let z : wiresSize n + 0 ≡ wiresSize n = omega arith in rw z refl)
+
+-- the wires are those of the network without tokens
+pub wires-same : (s t ts : List ℕ) (c : Counts) (st : List ℕ) → wiresFit (bareNet s t c) 0 st ≡ wiresFit (netIn s t c ts) 0 st
+unfolding wiresFit wireStart bareNet netIn netOf
+wires-same s t ts c st = refl
+
+-- ── one wire ─────────────────────────────────────────────────────────────────────────────────
+
+module _ (s t : List ℕ) (c : Counts) (h : Tabled s t c) where
+  abbrev x : Index
+  x = indexIn t c
+
+  abbrev n : Net
+  n = netOf s x []
+
+  pub wires-n : length (n .wires) ≡ c .wires
+  wires-n = wires-length s x [] ∙ n-wires s t c h
+
+  pub wire-long : (w a b m : ℕ) (st : List ℕ) → w < c .wires → b ≡ a + wireSize (wire n w) → b ≤ length st → m ≡ (wireOf s (getD t w 0)) .capacity → length (mid a (b - a) st) ≡ 1 + 5 * m
+  unfolding wireSize
+  wire-long w a b m st l q i e = mid-len a b st i ∙ omega (arith, q, ap (λ (v : Wire). v .capacity) (wire-is s t c h w l), e)
+
+  pub wire-part : (w a b m : ℕ) (y : Ty) (st : List ℕ) (r : Bool) → w < c .wires → a ≡ wireStart n w → b ≡ a + wireSize (wire n w) → y ≡ (wireOf s (getD t w 0)) .ty → m ≡ (wireOf s (getD t w 0)) .capacity →
+      r ≡ wireFits (record { ty = y; capacity = m }) (mid a (b - a) st) → r ≡ wireFits (wire n w) (mid (wireStart n w) (wireSize (wire n w)) st)
+  wire-part w a b m y st r l p q e f g =
+      let part : List ℕ = mid a (b - a) st in
+      let z : part ≡ mid (wireStart n w) (wireSize (wire n w)) st = rw (q, add-sub-cancel-left a (wireSize (wire n w)), p) in
+      g ∙ (λ k. wireFits (record { ty = e k; capacity = f k }) part) ∙ ap₂ wireFits (sym (wire-is s t c h w l)) z
+
+  -- ── one process ──
+
+  pub box-precise : (k : ℕ) → k < c .boxes → Precise (bodyAt s (getD t (64 + k) 0))
+  box-precise k l = rw (← box-entry s t c h k l) (precise k (bodyAt s (getD (x .boxes) k 0)) ((valid s t c h .boxes k (omega (arith, n-boxes s t c h))) .passes .limits))
+
+  pub output-long : (i k : ℕ) → i < c .outputs → k ≡ c .boxes + c .inputs + i → ownSize (proc n k) ≡ 2 + 5 * twoAt s (getD t (648 + i) 0 + 4)
+  unfolding ownSize outputAt
+  output-long i k l e =
+      let m : k ≡ length (x .boxes) + length (x .inputs) + i = omega (arith, n-boxes s t c h, n-inputs s t c h, e) in
+      ap (λ (j : ℕ). ownSize (proc n j)) m ∙ ap ownSize (output-proc s x [] i (omega (arith, n-outputs s t c h))) ∙ ap (λ (o : ℕ). 2 + 5 * twoAt s (o + 4)) (output-entry s t c h i l)
+
+  module _ (ts : List ℕ) (counted : Bool) (part : List ℕ) where
+    abbrev n′ : Net
+    n′ = netIn s t c ts
+
+    pub box-part : (k : ℕ) (body : List ℕ) (r : Bool) → k < c .boxes → body ≡ bodyAt s (getD t (64 + k) 0) → r ≡ valuesFit ((boxOf body) .vars) part → r ≡ ownFits n′ counted (proc n′ k) part
+    unfolding netIn
+    box-part k body r l e f =
+        f ∙ ap (λ (b : List ℕ). valuesFit ((boxOf b) .vars) part) (e ∙ ap (bodyAt s) (sym (box-entry s t c h k l)))
+        ∙ sym (fits-box s x k n′ counted part) ∙ ap (λ (p : Proc). ownFits n′ counted p part) (sym (box-proc s x (tokensOf s t c ts) k (omega (arith, n-boxes s t c h))))
+
+    pub input-part : (i k : ℕ) (p : List ℕ) (r : Bool) → i < c .inputs → k ≡ c .boxes + i → Known s t ts p c counted →
+        r ≡ (not counted || leb (twoAt part 0) (length (tokensIn (bodyAt ts (getD p i 0))))) → r ≡ ownFits n′ counted (proc n′ k) part
+    unfolding netIn inputAt
+    input-part i k p r l e q f =
+        let m : k ≡ length (x .boxes) + i = omega (arith, n-boxes s t c h, e) in
+        f ∙ by-counted counted (λ z. ap (λ (ks : List Token). length ks) (q .fields z .each i l .holds))
+        ∙ sym (ap (λ (j : ℕ). ownFits n′ counted (proc n′ j) part) m ∙ ap (λ (v : Proc). ownFits n′ counted v part) (input-proc s x (tokensOf s t c ts) i (omega (arith, n-inputs s t c h))) ∙ fits-input n′ counted _ (getD (tokensOf s t c ts) i []) part)
+      where
+        by-counted : {j k : ℕ} (b : Bool) → (b ≡ true → j ≡ k) → (not b || leb (twoAt part 0) j) ≡ (not b || leb (twoAt part 0) k)
+        by-counted true g = ap (leb (twoAt part 0)) (g refl)
+        by-counted false g = refl
+
+    pub output-part : (i k : ℕ) (r : Bool) → i < c .outputs → k ≡ c .boxes + c .inputs + i →
+        r ≡ roomFits ((wireOf s (getD t (getD s (getD t (648 + i) 0 + 3) 0) 0)) .ty) (twoAt s (getD t (648 + i) 0 + 4)) (twoAt part 0) (drop 2 part) → r ≡ ownFits n′ counted (proc n′ k) part
+    unfolding netIn outputAt
+    output-part i k r l e f =
+        let m : k ≡ length (x .boxes) + length (x .inputs) + i = omega (arith, n-boxes s t c h, n-inputs s t c h, e) in
+        let o : ℕ = getD t (648 + i) 0 in
+        let same : (w : ℕ) → wire n′ w ≡ wire n w = λ w. unfold wire netOf in refl in
+        f ∙ ap (λ (v : Wire). roomFits (v .ty) (twoAt s (o + 4)) (twoAt part 0) (drop 2 part)) (sym (same (getD s (o + 3) 0) ∙ wire-is s t c h (getD s (o + 3) 0) (output-in s t c h i l .declared)))
+        ∙ sym (ap (λ (j : ℕ). ownFits n′ counted (proc n′ j) part) m
+        ∙ ap (λ (v : Proc). ownFits n′ counted v part) (output-proc s x (tokensOf s t c ts) i (omega (arith, n-outputs s t c h)))
+        ∙ ap (λ (q : ℕ). ownFits n′ counted (output (getD s (q + 3) 0) (twoAt s (q + 4))) part) (output-entry s t c h i l) ∙ fits-output n′ counted (getD s (o + 3) 0) (twoAt s (o + 4)) part)
+
+  -- places and sizes are those of the network without tokens
+  module _ (ts : List ℕ) where
+    pub procs-n : length ((netIn s t c ts) .procs) ≡ c .boxes + c .inputs + c .outputs
+    unfolding netIn
+    procs-n = procs-length s x (tokensOf s t c ts) ∙ omega (arith, n-boxes s t c h, n-inputs s t c h, n-outputs s t c h)
+
+    pub own-place : (k : ℕ) → ownStart n k ≡ ownStart (netIn s t c ts) k
+    unfolding ownStart wiresSize netIn netOf
+    own-place k = ap (λ (l : List ℕ). wiresSize n + startOf l k) (sym (unfold netOf in own-sizes s x (tokensOf s t c ts)))
+
+    pub own-sized : (k : ℕ) → k < c .boxes + c .inputs + c .outputs → ownSize (proc n k) ≡ ownSize (proc (netIn s t c ts) k)
+    unfolding proc netIn
+    own-sized k l =
+        sym (getD-map-lt ownSize (n .procs) k nobody 0 (omega (arith, procs-length s x [], n-boxes s t c h, n-inputs s t c h, n-outputs s t c h)))
+        ∙ ap (λ (z : List ℕ). getD z k 0) (sym (own-sizes s x (tokensOf s t c ts)))
+        ∙ getD-map-lt ownSize ((netOf s x (tokensOf s t c ts)) .procs) k nobody 0 (omega (arith, procs-length s x (tokensOf s t c ts), n-boxes s t c h, n-inputs s t c h, n-outputs s t c h))
+
+    pub own-part : (k a b : ℕ) (counted : Bool) (st : List ℕ) (r : Bool) → k < c .boxes + c .inputs + c .outputs → a ≡ ownStart n k → b ≡ a + ownSize (proc n k) → r ≡ ownFits (netIn s t c ts) counted (proc (netIn s t c ts) k) (mid a (b - a) st) →
+        r ≡ ownFits (netIn s t c ts) counted (proc (netIn s t c ts) k) (mid (ownStart (netIn s t c ts) k) (ownSize (proc (netIn s t c ts) k)) st)
+    own-part k a b counted st r l p q f =
+        let d : b - a ≡ ownSize (proc (netIn s t c ts) k) = omega (arith, q, own-sized k l) in
+        f ∙ ap₂ (λ (i j : ℕ). ownFits (netIn s t c ts) counted (proc (netIn s t c ts) k) (mid i j st)) (p ∙ own-place k) d
+
+-- ── an input's count, an output's type ───────────────────────────────────────────────────────
+
+pub input-said : (counted : Bool) (a b k m : ℕ) → counted ≡ true → a ≡ b → k ≡ m → leb a k ≡ (not counted || leb b m)
+input-said counted a b k m e f g = rw e (ap₂ leb f g)
+
+module _ (s t : List ℕ) (c : Counts) (h : Tabled s t c) (i w : ℕ) (y : Ty) (l : i < c .outputs) (e : w ≡ getD s (getD t (648 + i) 0 + 3) 0) (f : y ≡ (wireOf s (getD t w 0)) .ty) where
+  pub output-type : y ≡ (wireOf s (getD t (getD s (getD t (648 + i) 0 + 3) 0) 0)) .ty
+  output-type = f ∙ ap (λ (v : ℕ). (wireOf s (getD t v 0)) .ty) e
+
+  pub output-precise : (1 ≤ y .p) × (y .p ≤ 30)
+  output-precise = let g = (wire-fine s t c h (getD s (getD t (648 + i) 0 + 3) 0) (output-in s t c h i l .declared)) .ty in rw output-type (g .low, g .high)
+
+-- ── the whole state ──────────────────────────────────────────────────────────────────────────
+
+module _ (s t ts : List ℕ) (c : Counts) (counted : Bool) (st : List ℕ) (w : Bool) (e : w ≡ wiresFit (bareNet s t c) 0 st) where
+  pub state-wrong : w ≡ false → false ≡ stateFits (netIn s t c ts) counted st
+  state-wrong f = sym (state-is (netIn s t c ts) st counted ∙ ap (λ (b : Bool). b && ownsFit (netIn s t c ts) counted 0 st) (sym (wires-same s t ts c st) ∙ sym e ∙ f))
+
+  pub state-right : (r : Bool) → w ≡ true → r ≡ ownsFit (netIn s t c ts) counted 0 st → r ≡ stateFits (netIn s t c ts) counted st
+  state-right r f g = g ∙ sym (state-is (netIn s t c ts) st counted ∙ ap (λ (b : Bool). b && ownsFit (netIn s t c ts) counted 0 st) (sym (wires-same s t ts c st) ∙ sym e ∙ f))
+
+-- ── without the taken counts the tokens don't matter ─────────────────────────────────────────
+
+alike : (f g : Proc → List ℕ → Bool) (k : ℕ) (p q : ℕ → Proc) (ps qs : List Proc) → ((i : ℕ) (l : List ℕ) → f (p i) l ≡ g (q i) l) → ((i : ℕ) → ownSize (p i) ≡ ownSize (q i)) →
+    ((l : List ℕ) → allFit f ownSize ps l ≡ allFit g ownSize qs l) → (l : List ℕ) → allFit f ownSize (tabulate k p ++ ps) l ≡ allFit g ownSize (tabulate k q ++ qs) l
+unfolding tabulate zipWith split allTrue
+alike f g zero p q ps qs e z r l = r l
+alike f g (suc k) p q ps qs e z r l =
+    ap₂ (λ (a b : Bool). a && b) (e 0 (take (ownSize (p 0)) l) ∙ ap (λ (m : ℕ). g (q 0) (take m l)) (z 0))
+    (alike f g k (λ i. p (suc i)) (λ i. q (suc i)) ps qs (λ i. e (suc i)) (λ i. z (suc i)) r (drop (ownSize (p 0)) l)
+    ∙ ap (λ (m : ℕ). allFit g ownSize (tabulate k (λ i. q (suc i)) ++ qs) (drop m l)) (z 0))
+
+module _ (s : List ℕ) (y : Index) (a b : List (List Token)) where
+  own-loose : (p : Proc) (l : List ℕ) → ownFits (netOf s y a) false p l ≡ ownFits (netOf s y b) false p l
+  unfolding ownFits wire netOf
+  own-loose (box v) l = refl
+  own-loose (input w ks) l = refl
+  own-loose (output w room) l = refl
+
+  procs-loose : (l : List ℕ) → allFit (ownFits (netOf s y a) false) ownSize ((netOf s y a) .procs) l ≡ allFit (ownFits (netOf s y b) false) ownSize ((netOf s y b) .procs) l
+  procs-loose l =
+      let f : Proc → List ℕ → Bool = ownFits (netOf s y a) false in
+      let g : Proc → List ℕ → Bool = ownFits (netOf s y b) false in
+      let apart : (ks : List (List Token)) (u : Proc → List ℕ → Bool) → allFit u ownSize ((netOf s y ks) .procs) l ≡ allFit u ownSize (boxesOf s y ++ (inputsOf s y ks ++ outputsOf s y)) l
+      = λ ks u. unfold netOf in ap (λ (ps : List Proc). allFit u ownSize ps l) (append-assoc (boxesOf s y) (inputsOf s y ks) (outputsOf s y)) in
+      apart a f
+      ∙ alike f g (length (y .boxes)) _ _ (inputsOf s y a ++ outputsOf s y) (inputsOf s y b ++ outputsOf s y) (λ i m. own-loose _ m) (λ i. refl)
+      (alike f g (length (y .inputs)) (inputAt s y a) (inputAt s y b) (outputsOf s y) (outputsOf s y) (λ i m. unfold inputAt ownFits in refl) (λ i. unfold inputAt ownSize in refl)
+      (λ m. ap (λ (ps : List Proc). allFit f ownSize ps m) (sym (append-nil (outputsOf s y)))
+      ∙ alike f g (length (y .outputs)) (outputAt s y) (outputAt s y) [] [] (λ i k. own-loose _ k) (λ i. refl) (λ k. unfold zipWith allTrue in refl) m
+      ∙ ap (λ (ps : List Proc). allFit g ownSize ps m) (append-nil (outputsOf s y)))) l
+      ∙ sym (apart b g)
+
+  pub fits-loose : (st : List ℕ) → stateFits (netOf s y a) false st ≡ stateFits (netOf s y b) false st
+  fits-loose st =
+      let m : wiresSize (netOf s y a) ≡ wiresSize (netOf s y b) = unfold netOf wiresSize in refl in
+      let w : allFit wireFits wireSize ((netOf s y a) .wires) st ≡ allFit wireFits wireSize ((netOf s y b) .wires) st = unfold netOf in refl in
+      state-fits (netOf s y a) false st
+      ∙ ap₂ (λ (u v : Bool). u && v) w (ap (λ (i : ℕ). allFit (ownFits (netOf s y a) false) ownSize ((netOf s y a) .procs) (drop i st)) m ∙ procs-loose (drop (wiresSize (netOf s y b)) st))
+      ∙ sym (state-fits (netOf s y b) false st)
