@@ -29,8 +29,8 @@ fn load_box(net: &[u8], table: &[u16], c: Counts, starts: &[u16], k: ProcessId, 
     let span = places::own_span(net, table, c, starts, k);
     let start = span.start;
     let end = span.end;
-    let body = lookup::box_body(net, table, k);
-    tokens::load_values(body, &mut state[start..end]);
+    let initial = lookup::box_body(net, table, k);
+    tokens::load_values(initial, &mut state[start..end]);
 }
 
 // A load: zeros for all of the state, then the initial values of each box. Bytes beyond the state's size stay.
