@@ -13,7 +13,8 @@ use Rattle.table.specs.Table.{indexIn, Within}
 use Rattle.index.specs.declared.Checked.{Checked}
 use Rattle.index.specs.declared.Checked.the-variants as checked
 use Rattle.index.specs.Verdicts.{verdictIn, Fit}
-use Rattle.model.specs.NetworkFile.{Index, Verdict, good, refuse, next, orRefuse, fields, oddWire, portsOf, netOf, network}
+use Rattle.model.specs.NetworkFile.{Index, Verdict, good, refuse, next, orRefuse, byVerdict, fields, oddWire, portsOf, netOf, network}
+use Rattle.model.specs.Calls.{accepted, refused, checkCall}
 
 pub too-long : (s : List ℕ) → 16384 < length s → refuse 2 0 ≡ network s
 unfolding network orRefuse
@@ -48,3 +49,13 @@ good-result s t r c e f = sym (ap (verdictIn t) e) ∙ f
 pub good-fit : (r : Checked) (c : Counts) → r ≡ checked.Good c → Fit r → Within c
 unfolding Fit
 good-fit r c e f = subst Fit e f
+
+-- ── as a call ────────────────────────────────────────────────────────────────────────────────
+
+pub said-bad : (s t : List ℕ) (r : Checked) (n p : ℕ) → r ≡ checked.Bad n p → verdictIn t r ≡ network s → refused n p 0 ≡ checkCall s
+unfolding verdictIn checkCall byVerdict
+said-bad s t r n p e f = rw (sym f ∙ ap (verdictIn t) e) refl
+
+pub said-good : (s t : List ℕ) (r : Checked) (c : Counts) → r ≡ checked.Good c → verdictIn t r ≡ network s → accepted ≡ checkCall s
+unfolding verdictIn checkCall byVerdict
+said-good s t r c e f = rw (sym f ∙ ap (verdictIn t) e) refl

@@ -1,13 +1,15 @@
 // The whole check of a network file: 2 for its length, then the fields, then the ports.
 use index::Checked;
+use model::CheckAnswer;
 use model::ProcessId;
+use model::Refusal;
 use model::RuleId;
 use table::Counts;
 ghost use mathlib.Core.Path.{_≡_};
 ghost use Prim.Native.Nat.{_≤_};
 ghost use lib.ListN.{length};
 ghost use Rattle.model.specs.NetworkFile.{network};
-ghost use Rattle.model.specs.Calls.{bodyCall};
+ghost use Rattle.model.specs.Calls.{saidCheck, checkCall, bodyCall};
 ghost use Rattle.octets.specs.Part.{PartOf};
 ghost use Rattle.index.specs.Verdicts.{verdictIn, Fit};
 ghost use Rattle.lookup.specs.Tabled.{Tabled};
@@ -37,6 +39,19 @@ pub fn checked(net: &[u8], tab: &mut [u16]) -> Checked
         };
     }
     r
+}
+
+// The check of a network file, as a call of the bench: accepted, or the refusal's number and place.
+pub fn check(net: &[u8]) -> CheckAnswer
+    ensures { λ r. ⌜ saidCheck r ≡ checkCall (now (net .entry)) ⌝ }
+{
+    let mut table = [0u16; 656];
+    match checked(net, &mut table) {
+        Checked::Good(_) => CheckAnswer::Accepted,
+        Checked::Bad { number, place } => CheckAnswer::Refused {
+            refusal: Refusal { number, place },
+        },
+    }
 }
 
 // The body of rule r of box b by an accepted file's table; empty at the file's end where there is none.
