@@ -1,22 +1,21 @@
 // Network files checked and rule bodies looked up: reads rows (0 for a check or 1 for a body, box, rule, a length of two bytes, that many bytes of a file), prints each answer on a line.
-use index::Checked;
 use libc::STDIN_FILENO;
 use libc::STDOUT_FILENO;
+use model::CheckAnswer;
 use model::ProcessId;
 use model::RuleId;
 
 // Whether the file is accepted, else the refusal's number and place.
 fn print_check(net: &[u8]) {
-    let mut table = [0u16; 656];
-    match network::checked(net, &mut table) {
-        Checked::Good(_) => {
+    match network::check(net) {
+        CheckAnswer::Accepted => {
             io::write_all(STDOUT_FILENO, b"ok");
         }
-        Checked::Bad { number, place } => {
+        CheckAnswer::Refused { refusal } => {
             io::write_all(STDOUT_FILENO, b"refused ");
-            io::print_decimal(STDOUT_FILENO, number as u64);
+            io::print_decimal(STDOUT_FILENO, refusal.number as u64);
             io::write_all(STDOUT_FILENO, b" ");
-            io::print_decimal(STDOUT_FILENO, place as u64);
+            io::print_decimal(STDOUT_FILENO, refusal.place as u64);
         }
     }
 }
