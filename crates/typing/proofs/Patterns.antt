@@ -51,7 +51,7 @@ unfolding patternOf
 pattern-high c z h = rw (ne-eqb c 0 (λ i. omega arith), ne-eqb c 1 (λ i. omega arith), ne-eqb c 2 (λ i. omega arith), lt-leb c 5 h)
 
 -- one with a constant, and one without
-constant-is : (c : ℕ) (z : ℤ) → (eqb c 2 || leb 6 c) ≡ true → patternOf c z ≡ only (tagOf c) z
+pub constant-is : (c : ℕ) (z : ℤ) → (eqb c 2 || leb 6 c) ≡ true → patternOf c z ≡ only (tagOf c) z
 unfolding patternOf tagOf
 constant-is zero z e = let w : _≡_ {A = ℕ} 0 1 = cc in absurd (omega arith)
 constant-is (suc zero) z e = let w : _≡_ {A = ℕ} 0 1 = cc in absurd (omega arith)
@@ -61,7 +61,7 @@ constant-is (suc (suc (suc (suc zero)))) z e = let w : _≡_ {A = ℕ} 0 1 = cc 
 constant-is (suc (suc (suc (suc (suc zero))))) z e = let w : _≡_ {A = ℕ} 0 1 = cc in absurd (omega arith)
 constant-is (suc (suc (suc (suc (suc (suc c)))))) z e = let l : 6 ≤ suc (suc (suc (suc (suc (suc c))))) = omega arith in pattern-high (suc (suc (suc (suc (suc (suc c)))))) z l ∙ ap (λ (k : ℕ). only k z) (tag-data (suc (suc (suc (suc (suc (suc c)))))) l)
 
-any-is : (c : ℕ) (z : ℤ) → (eqb c 2 || leb 6 c) ≡ false → (c ≡ 0 → ⊥) → patternOf c z ≡ any (tagOf c)
+pub any-is : (c : ℕ) (z : ℤ) → (eqb c 2 || leb 6 c) ≡ false → (c ≡ 0 → ⊥) → patternOf c z ≡ any (tagOf c)
 unfolding patternOf tagOf
 any-is zero z e n = absurd (n refl)
 any-is (suc zero) z e n = refl

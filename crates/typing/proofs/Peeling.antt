@@ -52,7 +52,7 @@ never at bad e g = let z : _≡_ {A = ℕ} 0 1 = cc in omega arith
 never at (got x n) e g = let z : _≡_ {A = ℕ} 0 1 = cc in omega arith
 
 module _ {A : Type 0} (f : List ℕ → Read A) (b : List ℕ) where
-  many-is : (k at end : ℕ) (x : Found (f (drop at b)) at end) → readMany f (suc k) (drop at b) ≡ after (readMany f k (drop end b)) (λ rest m. got (x .thing ∷ rest) (x .size + m))
+  pub many-is : (k at end : ℕ) (x : Found (f (drop at b)) at end) → readMany f (suc k) (drop at b) ≡ after (readMany f k (drop end b)) (λ rest m. got (x .thing ∷ rest) (x .size + m))
   unfolding readMany after
   many-is k at end x = rw (x .read, drop-drop (x .size) at b, x .ends)
 

@@ -45,7 +45,7 @@ fn entry(types: &[u8], k: usize) -> Ty
 }
 
 // The tag of a pattern code other than 0.
-fn pattern_tag(c: u8) -> u8
+pub fn pattern_tag(c: u8) -> u8
     ensures { λ r. ⌜ r ≡ tagOf c ⌝ }
 {
     match c {

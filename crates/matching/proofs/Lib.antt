@@ -1,0 +1,2 @@
+-- Laws of patterns and output actions, and the proofs of the code.
+pub mod Laws

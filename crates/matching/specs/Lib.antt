@@ -1,0 +1,2 @@
+-- What the contracts of matching cite beside the model.
+pub mod Outs
