@@ -32,7 +32,7 @@ fn placed(o: Outcome, next: usize) -> Evaluated
 }
 
 // The value at i, 0 past the end.
-fn number_at(vs: &[i64], i: usize) -> i64
+pub fn number_at(vs: &[i64], i: usize) -> i64
     ensures { λ r. ⌜ r ≡ getD (now (vs .entry)) i (pos 0) ⌝ }
 {
     if i < vs.len() { vs[i] } else { 0 }

@@ -147,7 +147,7 @@ pattern-inside v b at end e = go (ltb at (length b)) refl
 
 module _ (v : Bool) (b : List ℕ) where
   -- the first pattern, at an offset of the whole body
-  pattern-at : (at : ℕ) {x : Pattern} {n : ℕ} → readPattern (patternCodes v) (drop at b) ≡ got x n → x ≡ patternOf (getD b at 0) (valueAt b (at + 1))
+  pub pattern-at : (at : ℕ) {x : Pattern} {n : ℕ} → readPattern (patternCodes v) (drop at b) ≡ got x n → x ≡ patternOf (getD b at 0) (valueAt b (at + 1))
   pattern-at at e = pattern-read (patternCodes v) (drop at b) e .pattern ∙ rw (head-at at b, value-drop at b 1)
 
   module _ (types : List ℕ) (n : ℕ) where

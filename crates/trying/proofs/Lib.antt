@@ -1,0 +1,3 @@
+-- Laws of rules against what their box sees, and the proofs of the code.
+pub mod Tokens
+pub mod Offsets

@@ -1,0 +1,2 @@
+-- What the contracts of trying cite beside the model.
+pub mod Views
