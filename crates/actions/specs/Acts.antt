@@ -9,8 +9,8 @@ use Rattle.model.specs.declared.Outcome.the-variants as outcome
 use Rattle.model.specs.Expressions.{Exp, Scope, Typed, typed, ill, typeOf, Env, valueOf}
 use Rattle.model.specs.Rules.{Action, nothing, bare, send}
 use Rattle.model.specs.Cycles.{Mark, faulty}
-use Rattle.actions.specs.declared.Sent.{Sent}
-use Rattle.actions.specs.declared.Sent.the-variants as sent
+use Rattle.actions.specs.declared.Sending.{Sending}
+use Rattle.actions.specs.declared.Sending.the-variants as sending
 use Rattle.actions.specs.declared.Faults.{Faults}
 use Rattle.actions.specs.declared.Faults.the-variants as faults
 
@@ -34,9 +34,9 @@ allTyped sc (x ∷ xs) = sentTyped sc x && allTyped sc xs
 
 -- ── what an action sends ─────────────────────────────────────────────────────────────────────
 
-unfoldable pub sentAs : Option Token → Sent  -- as the code says it
-sentAs none = sent.Nothing
-sentAs (some t) = sent.Token t
+unfoldable pub sentAs : Option Token → Sending  -- as the code says it
+sentAs none = sending.Nothing
+sentAs (some t) = sending.Token t
 
 -- ── faults ───────────────────────────────────────────────────────────────────────────────────
 
