@@ -21,13 +21,13 @@ use Rattle.values.proofs.Results.{Small, Sound, sound-cond, wrap-small, apply-s
 use Rattle.types.specs.Scopes.{scopeIn}
 use Rattle.evaluation.specs.Envs.{envIn, EnvFits}
 
-judged-true : (b : Bool) (t : Ty) {u : Ty} → judged b t ≡ typed u → b ≡ true
+pub judged-true : (b : Bool) (t : Ty) {u : Ty} → judged b t ≡ typed u → b ≡ true
 unfolding judged
 judged-true true t e = refl
 judged-true false t e = absurd (let z : _≡_ {A = ℕ} 0 1 = cc in omega arith)
 
 -- an operand has a type, and what is made of it
-operand-typed : (at : ℕ) (x : Typed) (f : Ty → Typed) {u : Ty} → operandAt at x f ≡ typed u → (t : Ty) × ((x ≡ typed t) × (f t ≡ typed u))
+pub operand-typed : (at : ℕ) (x : Typed) (f : Ty → Typed) {u : Ty} → operandAt at x f ≡ typed u → (t : Ty) × ((x ≡ typed t) × (f t ≡ typed u))
 unfolding operandAt
 operand-typed at (typed t) f e = (t, (refl, e))
 operand-typed at (ill k) f e = absurd (let z : _≡_ {A = ℕ} 0 1 = cc in omega arith)

@@ -134,7 +134,7 @@ fn variable_type(vars: &[u8], n: usize, k: usize) -> Ty
 }
 
 // The types that a rule's expressions may name: of the four inputs, then of the four variables.
-fn scope(b: &[u8], ins: &[u8], vars: &[u8], a: Arity) -> [u8; 16]
+pub fn scope(b: &[u8], ins: &[u8], vars: &[u8], a: Arity) -> [u8; 16]
     requires { ⌜ (a .ins ≤ 4) × (a .vars ≤ 4) ⌝ }
     requires { ⌜ isRead (patternsFrom false (a .ins) 0 (now b)) ≡ true ⌝ }
     ensures { λ r. ⌜ Agree (scopeIn r) (scopeRead (typesIn (now (ins .entry)) (a .ins)) (typesIn (now (vars .entry)) (a .vars)) (patternsFrom false (a .ins) 0 (now (b .entry)))) ⌝ }

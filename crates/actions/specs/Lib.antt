@@ -1,0 +1,2 @@
+-- What the contracts of actions cite beside the model.
+pub mod Acts
