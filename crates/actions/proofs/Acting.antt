@@ -1,7 +1,7 @@
 -- An expression and an action at an offset of a rule's body, and what the code answers there.
 -- Assumes nothing.
 use mathlib.Core.Path.{_≡_, refl, sym, ap, _∙_}
-use mathlib.Core.Bool.{Bool, true, false, cond, _&&_}
+use mathlib.Core.Bool.{Bool, true, false, cond}
 use mathlib.Core.List.{List, _∷_}
 use Prim.Native.Nat.{ℕ, _+_, _-_, _≤_, _<_}
 use native.Mathlib.Omega.{arith}
@@ -10,7 +10,6 @@ use lib.ListN.{getD, drop, length}
 use lib.Seq.{drop-drop}
 use lib.Dec.{eqb}
 use borrow.Author.Tests.{ne-eqb}
-use Rattle.model.specs.declared.Ty.{Ty}
 use Rattle.model.specs.declared.Outcome.{Outcome}
 use Rattle.model.specs.declared.Outcome.the-variants.{Value, Fault}
 use Rattle.model.specs.Expressions.{Exp, Read, bad, got, readMany, expression, Scope, Typed, typed, ill, typeOf, Env, valueOf}
@@ -25,7 +24,7 @@ use Rattle.rules.specs.Bodies.{actionCodes, actionsFrom, endAt, sentLimits, lim
 use Rattle.evaluation.specs.declared.Evaluated.{Evaluated}
 use Rattle.evaluation.specs.declared.Evaluated.the-variants as evaluated
 use Rattle.evaluation.specs.Envs.{outcomeAt, valuedAt, isTyped}
-use Rattle.typing.specs.Fits.{isRead, listRead, expRead, actionAt}
+use Rattle.typing.specs.Fits.{listRead, expRead, actionAt}
 use Rattle.typing.proofs.Peeling.{Peel, peel, not-bad}
 use Rattle.typing.proofs.Actions.{action-read, action-inside, first-limits, limits-read}
 use Rattle.actions.specs.declared.Sending.the-variants as sending

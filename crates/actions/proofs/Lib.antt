@@ -2,3 +2,4 @@
 pub mod Acting
 pub mod Worked
 pub mod Placed
+pub mod Precise

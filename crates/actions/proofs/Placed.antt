@@ -1,12 +1,12 @@
 -- The guard and the actions of a rule, where they stand in its body.
 -- Assumes nothing.
-use mathlib.Core.Path.{_≡_, sym, ap, _∙_}
+use mathlib.Core.Path.{_≡_, ap, _∙_}
 use mathlib.Core.Bool.{true, false}
 use mathlib.Core.List.{List}
 use Prim.Native.Nat.{ℕ}
 use lib.ListN.{drop}
-use Rattle.model.specs.Expressions.{Exp, expression, Scope}
-use Rattle.model.specs.Rules.{Action, Rule, readRule, ruleRead}
+use Rattle.model.specs.Expressions.{expression, Scope}
+use Rattle.model.specs.Rules.{Rule, readRule, ruleRead}
 use Rattle.shapes.specs.declared.Arity.{Arity}
 use Rattle.rules.specs.declared.Parts.{Parts}
 use Rattle.rules.specs.Bodies.{actionsFrom}

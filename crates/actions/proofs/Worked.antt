@@ -1,7 +1,7 @@
 -- Two environments that agree on what an expression may name give it the same value; and every expression of a rule that fits has a type.
 -- Assumes nothing.
 use mathlib.Core.Path.{_≡_, refl, sym, ap, _∙_}
-use mathlib.Core.Bool.{Bool, true, false, cond, _&&_}
+use mathlib.Core.Bool.{Bool, true, false}
 use mathlib.Core.List.{List, [], _∷_, map}
 use Prim.Native.Nat.{ℕ, _+_}
 use native.Mathlib.Omega.{arith}
@@ -12,11 +12,12 @@ use Rattle.model.specs.declared.Outcome.{Outcome}
 use Rattle.model.specs.declared.Outcome.the-variants.{Value, Fault}
 use Rattle.model.specs.Values.{noType, isPlain, isBool, isTrue, carried}
 use Rattle.model.specs.Expressions.{Exp, literal, matched, variable, cast, one, two, if, Scope, Typed, typed, ill, typeOf, Env, then, valueOf}
-use Rattle.model.specs.Rules.{Action, nothing, bare, send, Rule, Shape, Fit, fits, fails, also, fitIf, guardFits, actionFits, actionsFit, patternsFit, sizeOfAction, scopeOf, ruleFits}
+use Rattle.model.specs.Rules.{Action, nothing, bare, send, Rule, Shape, fits, guardFits, actionFits, actionsFit, patternsFit, sizeOfAction, scopeOf, ruleFits}
 use Rattle.model.specs.Rules as fit
 use Rattle.model.specs.Cycles.{Mark, result, newVar, newVars, faultless, actionsOf, fires, chosen, attempt, guarded}
 use Rattle.model.proofs.Tests.{and₂, both}
 use Rattle.model.proofs.Decoded.{GoodRule}
+use Rattle.model.proofs.Kept.{also-fits, fitIf-fits, hasType-fits}
 use Rattle.evaluation.proofs.Sound.{judged-true, operand-typed}
 use Rattle.typing.specs.Fits.{Agree}
 use Rattle.typing.proofs.Scoping.{type-same}
@@ -142,31 +143,20 @@ pub guard-has : {sc : Scope} {r : Rule} → Judged sc r → hasType sc (r .guard
 unfolding hasType isType
 guard-has x = rw (x .guard)
 
-also-both : (f g : Fit) → also f g ≡ fits → (f ≡ fits) × (g ≡ fits)
-unfolding also
-also-both fits g e = (refl, e)
-also-both (fails k) g e = let z : _≡_ {A = ℕ} 0 1 = cc in absurd (omega arith)
-
-fit-true : (b : Bool) (at : ℕ) → fitIf b at ≡ fits → b ≡ true
-unfolding fitIf
-fit-true true at e = refl
-fit-true false at e = let z : _≡_ {A = ℕ} 0 1 = cc in absurd (omega arith)
-
 guard-type : (at : ℕ) (y : Typed) → guardFits at y ≡ fits → (t : Ty) × ((y ≡ typed t) × (isBool t ≡ true))
 unfolding guardFits
-guard-type at (typed t) e = (t, (refl, fit-true (isBool t) at e))
+guard-type at (typed t) e = (t, (refl, fitIf-fits (isBool t) at e))
 guard-type at (ill k) e = let z : _≡_ {A = ℕ} 0 1 = cc in absurd (omega arith)
 
 fit-typed : (own at : ℕ) (t : Ty) (y : Typed) → fit.hasType own at t y ≡ fits → isType y ≡ true
-unfolding fit.hasType isType
-fit-typed own at t (typed u) e = refl
-fit-typed own at t (ill k) e = let z : _≡_ {A = ℕ} 0 1 = cc in absurd (omega arith)
+unfolding isType
+fit-typed own at t y e = rw (hasType-fits own at t y e)
 
 action-typed : (sc : Scope) (at : ℕ) (t : Ty) (x : Action) → actionFits sc at t x ≡ fits → sentTyped sc x ≡ true
 unfolding actionFits sentTyped hasType
 action-typed sc at t nothing e = refl
 action-typed sc at t (bare tag) e = refl
-action-typed sc at t (send tag y) e = fit-typed at (at + 1) (carried t) (typeOf sc y) (also-both (fit.hasType at (at + 1) (carried t) (typeOf sc y)) _ e .0)
+action-typed sc at t (send tag y) e = fit-typed at (at + 1) (carried t) (typeOf sc y) (also-fits (fit.hasType at (at + 1) (carried t) (typeOf sc y)) _ e .0)
 
 -- as many types as actions
 actions-typed : (sc : Scope) (at : ℕ) (ts : List Ty) (xs : List Action) → length xs ≡ length ts → actionsFit sc at ts xs ≡ fits → allTyped sc xs ≡ true
@@ -174,17 +164,17 @@ unfolding actionsFit allTyped
 actions-typed sc at ts [] l e = refl
 actions-typed sc at [] (x ∷ xs) l e = absurd (omega arith)
 actions-typed sc at (t ∷ ts) (x ∷ xs) l e =
-    let f = also-both (actionFits sc at t x) (actionsFit sc (at + sizeOfAction x) ts xs) e in
+    let f = also-fits (actionFits sc at t x) (actionsFit sc (at + sizeOfAction x) ts xs) e in
     both (sentTyped sc x) (allTyped sc xs) (action-typed sc at t x (f .0)) (actions-typed sc (at + sizeOfAction x) ts xs (omega arith) (f .1))
 
 pub rule-judged : (sh : Shape) (r : Rule) → GoodRule sh r → Judged (scopeOf sh r) r
 unfolding ruleFits
 rule-judged sh r good =
     let sc = scopeOf sh r in
-    let f₁ = also-both (patternsFit 0 (sh .ins) (r .ins)) _ (good .fits) in
-    let f₂ = also-both (patternsFit _ (sh .vars) (r .vars)) _ (f₁ .1) in
-    let f₃ = also-both (guardFits _ (typeOf sc (r .guard))) _ (f₂ .1) in
-    let f₄ = also-both (actionsFit sc _ (sh .outs) (r .outs)) _ (f₃ .1) in
+    let f₁ = also-fits (patternsFit 0 (sh .ins) (r .ins)) _ (good .fits) in
+    let f₂ = also-fits (patternsFit _ (sh .vars) (r .vars)) _ (f₁ .1) in
+    let f₃ = also-fits (guardFits _ (typeOf sc (r .guard))) _ (f₂ .1) in
+    let f₄ = also-fits (actionsFit sc _ (sh .outs) (r .outs)) _ (f₃ .1) in
     let g = guard-type _ (typeOf sc (r .guard)) (f₃ .0) in
     record {
       guardType = g .0;

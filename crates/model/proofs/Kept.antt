@@ -168,17 +168,17 @@ output-deed n w room o r q p h g l = record {
 
 -- ── what a fit says ──────────────────────────────────────────────────────────────────────────
 
-also-fits : (f g : Fit) → also f g ≡ fits → (f ≡ fits) × (g ≡ fits)
+pub also-fits : (f g : Fit) → also f g ≡ fits → (f ≡ fits) × (g ≡ fits)
 unfolding also
 also-fits fits g e = (refl, e)
 also-fits (fails k) g e = let z : _≡_ {A = ℕ} 0 1 = cc in absurd (omega arith)
 
-fitIf-fits : (b : Bool) (at : ℕ) → fitIf b at ≡ fits → b ≡ true
+pub fitIf-fits : (b : Bool) (at : ℕ) → fitIf b at ≡ fits → b ≡ true
 unfolding fitIf
 fitIf-fits true at e = refl
 fitIf-fits false at e = let z : _≡_ {A = ℕ} 0 1 = cc in absurd (omega arith)
 
-hasType-fits : (own at : ℕ) (t : Ty) (x : Typed) → hasType own at t x ≡ fits → x ≡ typed t
+pub hasType-fits : (own at : ℕ) (t : Ty) (x : Typed) → hasType own at t x ≡ fits → x ≡ typed t
 unfolding hasType
 hasType-fits own at t (typed u) e = ap typed (same-type u t (fitIf-fits (sameType u t) own e))
 hasType-fits own at t (ill k) e = let z : _≡_ {A = ℕ} 0 1 = cc in absurd (omega arith)
