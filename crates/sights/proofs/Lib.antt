@@ -1,2 +1,3 @@
 -- Laws that several functions cite.
 pub mod Parts
+pub mod Ports
