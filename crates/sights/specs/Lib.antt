@@ -1,1 +1,2 @@
--- Nothing of its own: the contracts cite the model and the places.
+-- What the contracts of sights cite beside the model.
+pub mod Seen

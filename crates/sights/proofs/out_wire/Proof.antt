@@ -36,7 +36,8 @@ returns c =
     let body = count .before .before in
     let start = body .before .before .before in
     let a = start .args in
-    out-wire-is (a .net .now) (a .table .now) (a .c) (start .pre .0) (a .b .0) (start .pre .1 .0) (body .box-body .result .now) (count .wide .result) (a .j) (c .byte-at2 .result) (body .box-body .ensures) (count .wide .ensures .0 ∙ count .before .byte-at .ensures) (start .pre .1 .1) (c .byte-at2 .ensures)
+    let ins = count .wide .ensures .0 ∙ count .before .byte-at .ensures in
+    out-wire-is (a .net .now) (a .table .now) (a .c) (start .pre .0) (a .b .0) (start .pre .1 .0) (body .box-body .result .now) (count .wide .result) (a .j) (c .byte-at2 .result) (body .box-body .ensures) ins (start .pre .1 .1) (c .byte-at2 .ensures)
 
 pub out-wire-spec : {M : Type 1} → statement M
 out-wire-spec =
