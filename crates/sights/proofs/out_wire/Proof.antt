@@ -19,7 +19,10 @@ wide-requires : tie.Need-wide-requires
 wide-requires c κs = search needs
 
 add-byte-at : tie.Need-add-byte-at
-add-byte-at c = search needs
+add-byte-at c =
+    let start = c .before .before .before .before .before in
+    let a = start .args in
+    omega (arith, c .wide .ensures .1, start .pre .1 .1, (box-is (a .net .now) (a .table .now) (a .c) (start .pre .0) (a .b .0) (start .pre .1 .0)) .few-outs)
 
 add-byte-at-2 : tie.Need-add-byte-at-2
 add-byte-at-2 c =
