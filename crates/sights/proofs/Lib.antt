@@ -1,0 +1,4 @@
+-- Laws that several functions cite.
+pub mod Parts
+pub mod Ports
+pub mod Sights

@@ -1,0 +1,71 @@
+-- The wires of a box's ports, read from its body.
+-- Assumes nothing.
+use mathlib.Core.Path.{_≡_, sym, ap, _∙_}
+use mathlib.Core.List.{List}
+use Prim.Native.Nat.{ℕ, _+_, _<_}
+use native.Mathlib.Omega.{arith}
+use lib.ListN.{length, getD, length-map}
+use Rattle.model.specs.Bytes.{stretch}
+use Rattle.model.specs.NetworkFile.{Index, variableStart, bodyAt, wireOf, boxOf, boxAt, wiresOf}
+use Rattle.model.proofs.Decoded.{GoodBox, box-good, stretch-at, length-stretch}
+use Rattle.table.specs.declared.Counts.{Counts}
+use Rattle.table.specs.Table.{indexIn}
+use Rattle.table.proofs.Lengths.{box-fits}
+use Rattle.shapes.specs.Shapes.{BodyFits}
+use Rattle.lookup.specs.Tabled.{Tabled}
+use Rattle.lookup.proofs.Tabled.{valid, n-wires, n-boxes, box-entry}
+
+module _ (s t : List ℕ) (c : Counts) (h : Tabled s t c) (k : ℕ) (l : k < c .boxes) where
+  abbrev x : Index
+  x = indexIn t c
+
+  pub box-is : GoodBox (wiresOf s x) (boxAt s x k)
+  box-is = box-good s x (valid s t c h) k (omega (arith, l, n-boxes s t c h))
+
+  wires-are : length (wiresOf s x) ≡ c .wires
+  unfolding wiresOf
+  wires-are = length-map (x .wires) (wireOf s) ∙ n-wires s t c h
+
+  abbrev body : List ℕ
+  body = bodyAt s (getD t (64 + k) 0)
+
+  ins-are : (boxAt s x k) .ins ≡ stretch body 3 (getD body 0 0)
+  unfolding boxAt boxOf
+  ins-are = ap (λ (o : ℕ). stretch (bodyAt s o) 3 (getD (bodyAt s o) 0 0)) (box-entry s t c h k l)
+
+  outs-are : (boxAt s x k) .outs ≡ stretch body (3 + getD body 0 0) (getD body 1 0)
+  unfolding boxAt boxOf
+  outs-are = ap (λ (o : ℕ). stretch (bodyAt s o) (3 + getD (bodyAt s o) 0 0) (getD (bodyAt s o) 1 0)) (box-entry s t c h k l)
+
+  body-fits : BodyFits body
+  body-fits = rw (← box-entry s t c h k l) ((box-fits s (length (x .wires)) k (getD (x .boxes) k 0) (valid s t c h .boxes k (omega (arith, l, n-boxes s t c h)))) .body)
+
+  -- as many inputs and outputs as the body's first two bytes say
+  ins-long : length ((boxAt s x k) .ins) ≡ getD body 0 0
+  unfolding variableStart
+  ins-long = ap length ins-are ∙ length-stretch body 3 (getD body 0 0) (omega (arith, body-fits .whole))
+
+  outs-long : length ((boxAt s x k) .outs) ≡ getD body 1 0
+  unfolding variableStart
+  outs-long = ap length outs-are ∙ length-stretch body (3 + getD body 0 0) (getD body 1 0) (omega (arith, body-fits .whole))
+
+  pub ins-count : (b : List ℕ) (a v : ℕ) → b ≡ body → v ≡ getD b 0 0 → a ≡ v → a ≡ length ((boxAt s x k) .ins)
+  ins-count b a v e p q = q ∙ p ∙ ap (λ (y : List ℕ). getD y 0 0) e ∙ sym ins-long
+
+  pub outs-count : (b : List ℕ) (a v : ℕ) → b ≡ body → v ≡ getD b 1 0 → a ≡ v → a ≡ length ((boxAt s x k) .outs)
+  outs-count b a v e p q = q ∙ p ∙ ap (λ (y : List ℕ). getD y 1 0) e ∙ sym outs-long
+
+  pub in-wire-is : (b : List ℕ) (j v : ℕ) → b ≡ body → j < length ((boxAt s x k) .ins) → v ≡ getD b (3 + j) 0 → (v ≡ getD ((boxAt s x k) .ins) j 0) × (v < c .wires)
+  in-wire-is b j v e m q =
+      let i : j < getD body 0 0 = omega (arith, m, ins-long) in
+      let f : v ≡ getD ((boxAt s x k) .ins) j 0 = q ∙ ap (λ (y : List ℕ). getD y (3 + j) 0) e ∙ sym (ap (λ (y : List ℕ). getD y j 0) ins-are ∙ stretch-at body 3 (getD body 0 0) j i) in
+      (f, omega (arith, f, wires-are, box-is .ins j m))
+
+  pub out-wire-is : (b : List ℕ) (i j v : ℕ) → b ≡ body → i ≡ getD b 0 0 → j < length ((boxAt s x k) .outs) → v ≡ getD b (3 + i + j) 0 → (v ≡ getD ((boxAt s x k) .outs) j 0) × (v < c .wires)
+  out-wire-is b i j v e g m q =
+      let n : ℕ = getD body 0 0 in
+      let o : j < getD body 1 0 = omega (arith, m, outs-long) in
+      let u : i ≡ n = g ∙ ap (λ (y : List ℕ). getD y 0 0) e in
+      let f : v ≡ getD ((boxAt s x k) .outs) j 0 =
+      q ∙ ap (λ (y : List ℕ). getD y (3 + i + j) 0) e ∙ ap (λ (y : ℕ). getD body (3 + y + j) 0) u ∙ sym (ap (λ (y : List ℕ). getD y j 0) outs-are ∙ stretch-at body (3 + n) (getD body 1 0) j o) in
+      (f, omega (arith, f, wires-are, box-is .outs j m))

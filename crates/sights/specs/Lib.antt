@@ -1,0 +1,2 @@
+-- What the contracts of sights cite beside the model.
+pub mod Seen

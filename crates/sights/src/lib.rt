@@ -1,0 +1,300 @@
+// What of a lent state a process looks at, by its own ports: the bytes of a wire and of a process, and what a box sees.
+use model::ProcessId;
+use model::WireId;
+use table::Counts;
+ghost use mathlib.Core.Path.{_≡_};
+ghost use Prim.Native.Nat.{_+_, _<_, _^_};
+ghost use lib.ListN.{length, getD};
+ghost use lib.Signed.{mag};
+ghost use Rattle.model.specs.Network.{wire, proc, queue, own, varsOf};
+ghost use Rattle.model.specs.NetworkFile.{boxAt, hit};
+ghost use Rattle.model.specs.States.{wireBytes, ownBytes};
+ghost use Rattle.model.specs.Cycles.{oldest, full};
+ghost use Rattle.table.specs.Table.{indexIn};
+ghost use Rattle.lookup.specs.Tabled.{Tabled};
+ghost use Rattle.places.specs.Standing.{netIn, Standing, stateOf};
+ghost use Rattle.sights.specs.Seen.{headOf, headIn, fullIn, AtPort, AtPorts, Values, Seen};
+
+// What a box sees: of each input the oldest token's tag (4 where none waits) and value, the values of its variables from 4 on,
+// of each output whether its wire is full (1).
+pub struct View {
+    pub heads: [u8; 4],
+    pub full: [u8; 4],
+    pub vals: [i64; 8],
+}
+
+// The bytes of a wire.
+pub fn wire_part<'a>(
+    net: &[u8],
+    table: &[u16],
+    c: Counts,
+    starts: &[u16],
+    tokens: &[u8],
+    w: WireId,
+    state: &'a [u8],
+) -> &'a [u8]
+    requires { ⌜ Standing (now net) (now table) (now starts) (now tokens) (now state) c ⌝ }
+    requires { ⌜ w .0 < c .wires ⌝ }
+    ensures { λ r. ⌜ now r ≡ wireBytes (wire (netIn (now (net .entry)) (now (table .entry)) c (now (tokens .entry))) (w .0)) (queue (stateOf (now (net .entry)) (now (table .entry)) c (now (tokens .entry)) (now (state .entry))) (w .0)) ⌝ }
+{
+    let span = places::wire_span(net, table, c, starts, w);
+    let start = span.start;
+    let end = span.end;
+    &state[start..end]
+}
+
+// The bytes of a process.
+pub fn own_part<'a>(
+    net: &[u8],
+    table: &[u16],
+    c: Counts,
+    starts: &[u16],
+    tokens: &[u8],
+    k: ProcessId,
+    state: &'a [u8],
+) -> &'a [u8]
+    requires { ⌜ Standing (now net) (now table) (now starts) (now tokens) (now state) c ⌝ }
+    requires { ⌜ k .0 < c .boxes + c .inputs + c .outputs ⌝ }
+    ensures { λ r. ⌜ now r ≡ ownBytes (proc (netIn (now (net .entry)) (now (table .entry)) c (now (tokens .entry))) (k .0)) (own (stateOf (now (net .entry)) (now (table .entry)) c (now (tokens .entry)) (now (state .entry))) (k .0)) ⌝ }
+{
+    let span = places::own_span(net, table, c, starts, k);
+    let start = span.start;
+    let end = span.end;
+    &state[start..end]
+}
+
+// The wire of input j of box b.
+pub fn in_wire(net: &[u8], table: &[u16], c: Counts, b: ProcessId, j: usize) -> WireId
+    requires { ⌜ Tabled (now net) (now table) c ⌝ }
+    requires { ⌜ b .0 < c .boxes ⌝ }
+    requires { ⌜ j < length ((boxAt (now net) (indexIn (now table) c) (b .0)) .ins) ⌝ }
+    ensures { λ r. ⌜ (r .0 ≡ getD ((boxAt (now (net .entry)) (indexIn (now (table .entry)) c) (b .0)) .ins) j 0) × (r .0 < c .wires) ⌝ }
+{
+    let body = lookup::box_body(net, table, b);
+    WireId(octets::byte_at(body, 3 + j))
+}
+
+// The wire of output j of box b.
+pub fn out_wire(net: &[u8], table: &[u16], c: Counts, b: ProcessId, j: usize) -> WireId
+    requires { ⌜ Tabled (now net) (now table) c ⌝ }
+    requires { ⌜ b .0 < c .boxes ⌝ }
+    requires { ⌜ j < length ((boxAt (now net) (indexIn (now table) c) (b .0)) .outs) ⌝ }
+    ensures { λ r. ⌜ (r .0 ≡ getD ((boxAt (now (net .entry)) (indexIn (now (table .entry)) c) (b .0)) .outs) j 0) × (r .0 < c .wires) ⌝ }
+{
+    let body = lookup::box_body(net, table, b);
+    let ins = octets::wide(octets::byte_at(body, 0));
+    WireId(octets::byte_at(body, 3 + ins + j))
+}
+
+// The tag of a wire's oldest token, from the wire's bytes; 4 where no token waits.
+pub fn head(part: &[u8]) -> u8
+    ensures { λ r. ⌜ r ≡ headIn (now (part .entry)) ⌝ }
+{
+    if octets::byte_at(part, 0) == 0 {
+        return 4;
+    }
+    octets::byte_at(part, 1)
+}
+
+// Whether the tokens take all of a wire's bytes (1).
+pub fn is_full(part: &[u8]) -> u8
+    ensures { λ r. ⌜ r ≡ fullIn (now (part .entry)) ⌝ }
+{
+    let end = 1 + 5 * queues::count(part);
+    if part.len() <= end {
+        return 1;
+    }
+    0
+}
+
+// The bytes of the wire of input j of box k; none where it has no such input.
+fn in_part<'a>(
+    net: &[u8],
+    table: &[u16],
+    c: Counts,
+    starts: &[u16],
+    tokens: &[u8],
+    k: ProcessId,
+    j: usize,
+    state: &'a [u8],
+) -> &'a [u8]
+    requires { ⌜ Standing (now net) (now table) (now starts) (now tokens) (now state) c ⌝ }
+    requires { ⌜ k .0 < c .boxes ⌝ }
+    ensures { λ r. ⌜ AtPort ((boxAt (now (net .entry)) (indexIn (now (table .entry)) c) (k .0)) .ins) (λ w. wireBytes (wire (netIn (now (net .entry)) (now (table .entry)) c (now (tokens .entry))) w) (queue (stateOf (now (net .entry)) (now (table .entry)) c (now (tokens .entry)) (now (state .entry))) w)) j (now r) ⌝ }
+{
+    let body = lookup::box_body(net, table, k);
+    if octets::wide(octets::byte_at(body, 0)) <= j {
+        return &state[0..0];
+    }
+    let w = in_wire(net, table, c, k, j);
+    wire_part(net, table, c, starts, tokens, w, state)
+}
+
+// The bytes of the wire of output j of box k; none where it has no such output.
+fn out_part<'a>(
+    net: &[u8],
+    table: &[u16],
+    c: Counts,
+    starts: &[u16],
+    tokens: &[u8],
+    k: ProcessId,
+    j: usize,
+    state: &'a [u8],
+) -> &'a [u8]
+    requires { ⌜ Standing (now net) (now table) (now starts) (now tokens) (now state) c ⌝ }
+    requires { ⌜ k .0 < c .boxes ⌝ }
+    ensures { λ r. ⌜ AtPort ((boxAt (now (net .entry)) (indexIn (now (table .entry)) c) (k .0)) .outs) (λ w. wireBytes (wire (netIn (now (net .entry)) (now (table .entry)) c (now (tokens .entry))) w) (queue (stateOf (now (net .entry)) (now (table .entry)) c (now (tokens .entry)) (now (state .entry))) w)) j (now r) ⌝ }
+{
+    let body = lookup::box_body(net, table, k);
+    if octets::wide(octets::byte_at(body, 1)) <= j {
+        return &state[0..0];
+    }
+    let w = out_wire(net, table, c, k, j);
+    wire_part(net, table, c, starts, tokens, w, state)
+}
+
+// The tag of the oldest token at input j.
+fn head_at(
+    net: &[u8],
+    table: &[u16],
+    c: Counts,
+    starts: &[u16],
+    tokens: &[u8],
+    k: ProcessId,
+    j: usize,
+    state: &[u8],
+) -> u8
+    requires { ⌜ Standing (now net) (now table) (now starts) (now tokens) (now state) c ⌝ }
+    requires { ⌜ k .0 < c .boxes ⌝ }
+    ensures { λ r. ⌜ AtPort ((boxAt (now (net .entry)) (indexIn (now (table .entry)) c) (k .0)) .ins) (λ w. headOf (queue (stateOf (now (net .entry)) (now (table .entry)) c (now (tokens .entry)) (now (state .entry))) w)) j r ⌝ }
+{
+    head(in_part(net, table, c, starts, tokens, k, j, state))
+}
+
+// The value of the oldest token at input j.
+fn value_at(
+    net: &[u8],
+    table: &[u16],
+    c: Counts,
+    starts: &[u16],
+    tokens: &[u8],
+    k: ProcessId,
+    j: usize,
+    state: &[u8],
+) -> i64
+    requires { ⌜ Standing (now net) (now table) (now starts) (now tokens) (now state) c ⌝ }
+    requires { ⌜ k .0 < c .boxes ⌝ }
+    ensures { λ r. ⌜ AtPort ((boxAt (now (net .entry)) (indexIn (now (table .entry)) c) (k .0)) .ins) (λ w. (oldest (queue (stateOf (now (net .entry)) (now (table .entry)) c (now (tokens .entry)) (now (state .entry))) w)) .value) j r × (mag r < 2 ^ 31) ⌝ }
+{
+    let t = queues::oldest(in_part(net, table, c, starts, tokens, k, j, state));
+    t.value
+}
+
+// Whether the wire of output j is full.
+fn full_at(
+    net: &[u8],
+    table: &[u16],
+    c: Counts,
+    starts: &[u16],
+    tokens: &[u8],
+    k: ProcessId,
+    j: usize,
+    state: &[u8],
+) -> u8
+    requires { ⌜ Standing (now net) (now table) (now starts) (now tokens) (now state) c ⌝ }
+    requires { ⌜ k .0 < c .boxes ⌝ }
+    ensures { λ r. ⌜ AtPort ((boxAt (now (net .entry)) (indexIn (now (table .entry)) c) (k .0)) .outs) (λ w. hit (full (netIn (now (net .entry)) (now (table .entry)) c (now (tokens .entry))) (stateOf (now (net .entry)) (now (table .entry)) c (now (tokens .entry)) (now (state .entry))) w)) j r ⌝ }
+{
+    is_full(out_part(net, table, c, starts, tokens, k, j, state))
+}
+
+// The tags of the oldest tokens at the inputs of box k.
+fn heads(
+    net: &[u8],
+    table: &[u16],
+    c: Counts,
+    starts: &[u16],
+    tokens: &[u8],
+    k: ProcessId,
+    state: &[u8],
+) -> [u8; 4]
+    requires { ⌜ Standing (now net) (now table) (now starts) (now tokens) (now state) c ⌝ }
+    requires { ⌜ k .0 < c .boxes ⌝ }
+    ensures { λ r. ⌜ AtPorts ((boxAt (now (net .entry)) (indexIn (now (table .entry)) c) (k .0)) .ins) (λ w. headOf (queue (stateOf (now (net .entry)) (now (table .entry)) c (now (tokens .entry)) (now (state .entry))) w)) 0 r ⌝ }
+{
+    [
+        head_at(net, table, c, starts, tokens, k, 0, state),
+        head_at(net, table, c, starts, tokens, k, 1, state),
+        head_at(net, table, c, starts, tokens, k, 2, state),
+        head_at(net, table, c, starts, tokens, k, 3, state),
+    ]
+}
+
+// Which of the outputs of box k have a full wire.
+fn fulls(
+    net: &[u8],
+    table: &[u16],
+    c: Counts,
+    starts: &[u16],
+    tokens: &[u8],
+    k: ProcessId,
+    state: &[u8],
+) -> [u8; 4]
+    requires { ⌜ Standing (now net) (now table) (now starts) (now tokens) (now state) c ⌝ }
+    requires { ⌜ k .0 < c .boxes ⌝ }
+    ensures { λ r. ⌜ AtPorts ((boxAt (now (net .entry)) (indexIn (now (table .entry)) c) (k .0)) .outs) (λ w. hit (full (netIn (now (net .entry)) (now (table .entry)) c (now (tokens .entry))) (stateOf (now (net .entry)) (now (table .entry)) c (now (tokens .entry)) (now (state .entry))) w)) 0 r ⌝ }
+{
+    [
+        full_at(net, table, c, starts, tokens, k, 0, state),
+        full_at(net, table, c, starts, tokens, k, 1, state),
+        full_at(net, table, c, starts, tokens, k, 2, state),
+        full_at(net, table, c, starts, tokens, k, 3, state),
+    ]
+}
+
+// The values of the oldest tokens at the inputs of box k, then of its variables.
+fn values(
+    net: &[u8],
+    table: &[u16],
+    c: Counts,
+    starts: &[u16],
+    tokens: &[u8],
+    k: ProcessId,
+    state: &[u8],
+) -> [i64; 8]
+    requires { ⌜ Standing (now net) (now table) (now starts) (now tokens) (now state) c ⌝ }
+    requires { ⌜ k .0 < c .boxes ⌝ }
+    ensures { λ r. ⌜ Values (stateOf (now (net .entry)) (now (table .entry)) c (now (tokens .entry)) (now (state .entry))) ((boxAt (now (net .entry)) (indexIn (now (table .entry)) c) (k .0)) .ins) (varsOf (own (stateOf (now (net .entry)) (now (table .entry)) c (now (tokens .entry)) (now (state .entry))) (k .0))) r ⌝ }
+{
+    let own = own_part(net, table, c, starts, tokens, k, state);
+    [
+        value_at(net, table, c, starts, tokens, k, 0, state),
+        value_at(net, table, c, starts, tokens, k, 1, state),
+        value_at(net, table, c, starts, tokens, k, 2, state),
+        value_at(net, table, c, starts, tokens, k, 3, state),
+        queues::var_at(own, 0),
+        queues::var_at(own, 1),
+        queues::var_at(own, 2),
+        queues::var_at(own, 3),
+    ]
+}
+
+// What box k sees.
+pub fn view_of(
+    net: &[u8],
+    table: &[u16],
+    c: Counts,
+    starts: &[u16],
+    tokens: &[u8],
+    k: ProcessId,
+    state: &[u8],
+) -> View
+    requires { ⌜ Standing (now net) (now table) (now starts) (now tokens) (now state) c ⌝ }
+    requires { ⌜ k .0 < c .boxes ⌝ }
+    ensures { λ r. ⌜ Seen (netIn (now (net .entry)) (now (table .entry)) c (now (tokens .entry))) (stateOf (now (net .entry)) (now (table .entry)) c (now (tokens .entry)) (now (state .entry))) (boxAt (now (net .entry)) (indexIn (now (table .entry)) c) (k .0)) (varsOf (own (stateOf (now (net .entry)) (now (table .entry)) c (now (tokens .entry)) (now (state .entry))) (k .0))) r ⌝ }
+{
+    let heads = heads(net, table, c, starts, tokens, k, state);
+    let full = fulls(net, table, c, starts, tokens, k, state);
+    let vals = values(net, table, c, starts, tokens, k, state);
+    View { heads, full, vals }
+}
