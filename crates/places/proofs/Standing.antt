@@ -112,6 +112,17 @@ module _ (s t p ts b : List ℕ) (c : Counts) (h : Standing s t p ts b c) where
       ∙ ap (λ (z : List ℕ). getD z k 0) (own-sizes s (indexIn t c) (tokensOf s t c ts))
       ∙ getD-map-lt ownSize (m .procs) k nobody 0 l
 
+  -- a wire's or a process's span is the same with the tokens
+  pub wire-span-same : (w : ℕ) (r : Span) → WireSpan m w r → WireSpan n′ w r
+  wire-span-same w r q = record {
+    start = q .start ∙ unfold wireStart in ap (λ (ws : List Wire). startOf (map wireSize ws) w) (sym wires-same);
+    end = q .end ∙ unfold wire in ap (λ (ws : List Wire). r .start + wireSize (getD ws w noWire)) (sym wires-same);
+    inside = omega (arith, q .inside, size-same);
+  }
+
+  pub own-span-same : (k : ℕ) (r : Span) → k < length (m .procs) → OwnSpan m k r → OwnSpan n′ k r
+  own-span-same k r l q = record { start = q .start ∙ sym (own-start-same k); end = q .end ∙ ap (λ (z : ℕ). r .start + z) (sym (own-size-same k l)); inside = omega (arith, q .inside, size-same) }
+
   -- the bytes at a wire's span are its queue, laid out
   pub wire-bytes : (w : ℕ) (r : Span) → w < length (m .wires) → WireSpan m w r → mid (r .start) (r .end - r .start) b ≡ wireBytes (wire n′ w) (queue (stateOf s t c ts b) w)
   wire-bytes w r l q =
