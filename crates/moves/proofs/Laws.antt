@@ -1,15 +1,16 @@
 -- A part of the lent bytes exchanged for another queue, or for other contents of a process: what the bytes became.
 -- Assumes nothing.
 use mathlib.Core.Path.{_≡_, refl, ap, _∙_}
+use mathlib.Core.Logic.{_≢_}
 use mathlib.Core.Bool.{true}
 use mathlib.Core.List.{List, [], _++_}
 use Prim.Native.Nat.{ℕ, _+_, _-_, _≤_, _<_}
 use native.Mathlib.Omega.{arith}
 use native.Mathlib.Decide.{ℕ-discrete}
-use lib.ListN.{length, getD, drop, set, length-append, length-drop, length-set}
+use lib.ListN.{length, drop, length-append, length-drop, length-set}
 use lib.Seq.{getD-set-same, getD-set-other, drop-at}
 use Rattle.model.specs.declared.Token.{Token}
-use Rattle.model.specs.Network.{Net, Own, vars, State, wire, capacity, proc, queue, own}
+use Rattle.model.specs.Network.{Wire, Proc, Net, Own, vars, State, wire, capacity, proc, queue, own}
 use Rattle.model.specs.NetworkFile.{netOf}
 use Rattle.model.specs.States.{tokensFit, wireBytes, ownBytes, bytesOf, stateSize}
 use Rattle.model.proofs.Kept.{GoodOwn, GoodState}
@@ -39,42 +40,82 @@ module _ (s t p ts : List ℕ) (c : Counts) where
   pub became-more : (b b′ b″ : List ℕ) (s′ s″ : State) → Became s t p ts b c b′ s′ → Became s t p ts b′ c b″ s″ → Became s t p ts b c b″ s″
   became-more b b′ b″ s′ s″ f g = record { stands = g .stands; state = g .state; long = g .long ∙ f .long; rest = g .rest ∙ f .rest }
 
+-- ── what stands there afterwards ─────────────────────────────────────────────────────────────
+
+module _ (s : State) where
+  pub queue-same : (w : ℕ) (q : List Token) → w < length (s .queues) → queue (withQueue w q s) w ≡ q
+  unfolding withQueue queue
+  queue-same w q l = getD-set-same (s .queues) w q [] l
+
+  pub queue-other : (w v : ℕ) (q : List Token) → v ≢ w → queue (withQueue w q s) v ≡ queue s v
+  unfolding withQueue queue
+  queue-other w v q d = getD-set-other (s .queues) w v q [] d
+
+  pub queue-kept : (k w : ℕ) (o : Own) → queue (withOwn k o s) w ≡ queue s w
+  unfolding withOwn queue
+  queue-kept k w o = refl
+
+  pub own-same : (k : ℕ) (o : Own) → k < length (s .owns) → own (withOwn k o s) k ≡ o
+  unfolding withOwn own
+  own-same k o l = getD-set-same (s .owns) k o (vars []) l
+
+  pub own-other : (k j : ℕ) (o : Own) → j ≢ k → own (withOwn k o s) j ≡ own s j
+  unfolding withOwn own
+  own-other k j o d = getD-set-other (s .owns) k j o (vars []) d
+
+  pub own-kept : (w k : ℕ) (q : List Token) → own (withQueue w q s) k ≡ own s k
+  unfolding withQueue own
+  own-kept w k q = refl
+
 -- ── a good state with another queue, or other contents, is good ──────────────────────────────
 
 pub good-queue : (n : Net) (s : State) (w : ℕ) (q : List Token) → GoodState n s → w < length (n .wires) → length q ≤ capacity n w → tokensFit ((wire n w) .ty) q ≡ true → GoodState n (withQueue w q s)
-unfolding withQueue queue
 good-queue n s w q g l m f = record {
-  queues = length-set (s .queues) w q ∙ g .queues;
-  owns = g .owns;
+  queues = unfold withQueue in length-set (s .queues) w q ∙ g .queues;
+  owns = unfold withQueue in g .owns;
   most = λ v. most-at v (ℕ-discrete v w);
   fit = λ v i. fit-at v i (ℕ-discrete v w);
-  kept = λ k i. unfold own in g .kept k i;
+  kept = λ k i. rw (own-kept s w k q) (g .kept k i);
 }
   where
-    same : getD (set (s .queues) w q) w [] ≡ q
-    same = getD-set-same (s .queues) w q [] (omega (arith, l, g .queues))
+    same : queue (withQueue w q s) w ≡ q
+    same = queue-same s w q (omega (arith, l, g .queues))
 
-    most-at : (v : ℕ) → Dec (v ≡ w) → length (getD (set (s .queues) w q) v []) ≤ capacity n v
+    most-at : (v : ℕ) → Dec (v ≡ w) → length (queue (withQueue w q s) v) ≤ capacity n v
     most-at v (yes e) = rw (e, same) m
-    most-at v (no d) = rw (getD-set-other (s .queues) w v q [] d) (g .most v)
+    most-at v (no d) = rw (queue-other s w v q d) (g .most v)
 
-    fit-at : (v : ℕ) → v < length (n .wires) → Dec (v ≡ w) → tokensFit ((wire n v) .ty) (getD (set (s .queues) w q) v []) ≡ true
+    fit-at : (v : ℕ) → v < length (n .wires) → Dec (v ≡ w) → tokensFit ((wire n v) .ty) (queue (withQueue w q s) v) ≡ true
     fit-at v i (yes e) = rw (e, same) f
-    fit-at v i (no d) = rw (getD-set-other (s .queues) w v q [] d) (g .fit v i)
+    fit-at v i (no d) = rw (queue-other s w v q d) (g .fit v i)
 
 pub good-own : (n : Net) (s : State) (k : ℕ) (o : Own) → GoodState n s → k < length (n .procs) → GoodOwn n (proc n k) o → GoodState n (withOwn k o s)
-unfolding withOwn own
 good-own n s k o g l x = record {
-  queues = g .queues;
-  owns = length-set (s .owns) k o ∙ g .owns;
-  most = λ w. unfold queue in g .most w;
-  fit = λ w i. unfold queue in g .fit w i;
+  queues = unfold withOwn in g .queues;
+  owns = unfold withOwn in length-set (s .owns) k o ∙ g .owns;
+  most = λ w. rw (queue-kept s k w o) (g .most w);
+  fit = λ w i. rw (queue-kept s k w o) (g .fit w i);
   kept = λ j i. kept-at j i (ℕ-discrete j k);
 }
   where
-    kept-at : (j : ℕ) → j < length (n .procs) → Dec (j ≡ k) → GoodOwn n (proc n j) (getD (set (s .owns) k o) j (vars []))
-    kept-at j i (yes e) = rw (e, getD-set-same (s .owns) k o (vars []) (omega (arith, l, g .owns))) x
-    kept-at j i (no d) = rw (getD-set-other (s .owns) k j o (vars []) d) (g .kept j i)
+    kept-at : (j : ℕ) → j < length (n .procs) → Dec (j ≡ k) → GoodOwn n (proc n j) (own (withOwn k o s) j)
+    kept-at j i (yes e) = rw (e, own-same s k o (omega (arith, l, g .owns))) x
+    kept-at j i (no d) = rw (own-other s k j o d) (g .kept j i)
+
+-- ── an edit of a part ────────────────────────────────────────────────────────────────────────
+
+-- f does to the bytes of a wire what brings its queue from q to q′, and asks A of them
+pub record WireStep (w : Wire) (A : List ℕ → Type 0) (f : List ℕ → List ℕ) (q q′ : List Token) : Type 0 where
+  pub asks : A (wireBytes w q)
+  pub does : f (wireBytes w q) ≡ wireBytes w q′
+  pub most : length q′ ≤ w .capacity
+  pub fit : tokensFit (w .ty) q′ ≡ true
+
+-- the same of a process and what it keeps
+pub record OwnStep (n : Net) (x : Proc) (A : List ℕ → Type 0) (f : List ℕ → List ℕ) (o o′ : Own) : Type 0 where
+  pub asks : A (ownBytes x o)
+  pub does : f (ownBytes x o) ≡ ownBytes x o′
+  pub good : GoodOwn n x o′
 
 -- ── the general laws ─────────────────────────────────────────────────────────────────────────
 
@@ -122,36 +163,36 @@ module _ (s t p ts b : List ℕ) (c : Counts) (h : Standing s t p ts b c) where
   abbrev whole : b ≡ bytesOf n st ++ drop (stateSize n) b
   whole = standing.whole s t p ts b c h
 
-  module _ (w : ℕ) (r : Span) (l : w < c .wires) (v : WireSpan m w r) where
-    abbrev wv : WireSpan n w r
-    wv = standing.wire-span-same s t p ts b c h w r v
-
-    -- what stands at a wire's span
-    pub wire-there : mid (r .start) (r .end - r .start) b ≡ wireBytes (wire n w) (queue st w)
+  -- a step of wire w, done at its span
+  module _ (w : ℕ) (r : Span) (A : List ℕ → Type 0) (f : List ℕ → List ℕ) (q′ : List Token) (l : w < c .wires) (v : WireSpan m w r) (x : WireStep (wire n w) A f (queue st w) q′) where
+    abbrev wire-there : mid (r .start) (r .end - r .start) b ≡ wireBytes (wire n w) (queue st w)
     wire-there = standing.wire-bytes s t p ts b c h w r (omega (arith, wires-length s (indexIn t c) [], n-wires s t c (h .tabled))) v
 
-    -- another queue there
-    pub wire-became : (q : List Token) (last : List ℕ) → length q ≤ capacity n w → tokensFit ((wire n w) .ty) q ≡ true → last ≡ wireBytes (wire n w) q
-        → Octets (putMid (r .start) (r .end - r .start) b last) → Became s t p ts b c (putMid (r .start) (r .end - r .start) b last) (withQueue w q st)
-    unfolding withQueue
-    wire-became q last k f e o =
+    pub wire-asks : A (mid (r .start) (r .end - r .start) b)
+    wire-asks = rw wire-there (x .asks)
+
+    pub wire-done : (last : List ℕ) → last ≡ f (mid (r .start) (r .end - r .start) b)
+        → Octets (putMid (r .start) (r .end - r .start) b last) → Became s t p ts b c (putMid (r .start) (r .end - r .start) b last) (withQueue w q′ st)
+    unfolding withQueue capacity
+    wire-done last e o =
         let i : w < length (n .wires) = omega (arith, wires-n) in
-        became (putMid (r .start) (r .end - r .start) b last) (withQueue w q st) (good-queue n st w q (standing.state-good s t p ts b c h) i k f) o
-        (wire-edit n st laid b (drop (stateSize n) b) whole (λ x. wireBytes (wire n w) q) last q w (r .start) (r .end) i (wv .start) (wv .end) e refl)
+        let v′ = standing.wire-span-same s t p ts b c h w r v in
+        became (putMid (r .start) (r .end - r .start) b last) (withQueue w q′ st) (good-queue n st w q′ (standing.state-good s t p ts b c h) i (x .most) (x .fit)) o
+        (wire-edit n st laid b (drop (stateSize n) b) whole f last q′ w (r .start) (r .end) i (v′ .start) (v′ .end) e (x .does))
 
-  module _ (k : ℕ) (r : Span) (l : k < c .boxes + c .inputs + c .outputs) (v : OwnSpan m k r) where
-    abbrev ov : OwnSpan n k r
-    ov = standing.own-span-same s t p ts b c h k r (omega (arith, procs-m)) v
-
-    -- what stands at a process's span
-    pub own-there : mid (r .start) (r .end - r .start) b ≡ ownBytes (proc n k) (own st k)
+  -- a step of process k, done at its span
+  module _ (k : ℕ) (r : Span) (A : List ℕ → Type 0) (f : List ℕ → List ℕ) (o′ : Own) (l : k < c .boxes + c .inputs + c .outputs) (v : OwnSpan m k r) (x : OwnStep n (proc n k) A f (own st k) o′) where
+    abbrev own-there : mid (r .start) (r .end - r .start) b ≡ ownBytes (proc n k) (own st k)
     own-there = standing.own-bytes s t p ts b c h k r (omega (arith, procs-m)) v
 
-    -- other contents there
-    pub own-became : (o : Own) (last : List ℕ) → GoodOwn n (proc n k) o → last ≡ ownBytes (proc n k) o
-        → Octets (putMid (r .start) (r .end - r .start) b last) → Became s t p ts b c (putMid (r .start) (r .end - r .start) b last) (withOwn k o st)
+    pub own-asks : A (mid (r .start) (r .end - r .start) b)
+    own-asks = rw own-there (x .asks)
+
+    pub own-done : (last : List ℕ) → last ≡ f (mid (r .start) (r .end - r .start) b)
+        → Octets (putMid (r .start) (r .end - r .start) b last) → Became s t p ts b c (putMid (r .start) (r .end - r .start) b last) (withOwn k o′ st)
     unfolding withOwn
-    own-became o last x e z =
+    own-done last e o =
         let i : k < length (n .procs) = omega (arith, procs-n) in
-        became (putMid (r .start) (r .end - r .start) b last) (withOwn k o st) (good-own n st k o (standing.state-good s t p ts b c h) i x) z
-        (own-edit n st laid b (drop (stateSize n) b) whole (λ y. ownBytes (proc n k) o) last o k (r .start) (r .end) i (ov .start) (ov .end) e refl)
+        let v′ = standing.own-span-same s t p ts b c h k r (omega (arith, procs-m)) v in
+        became (putMid (r .start) (r .end - r .start) b last) (withOwn k o′ st) (good-own n st k o′ (standing.state-good s t p ts b c h) i (x .good)) o
+        (own-edit n st laid b (drop (stateSize n) b) whole f last o′ k (r .start) (r .end) i (v′ .start) (v′ .end) e (x .does))

@@ -8,9 +8,11 @@ use lib.ListN.{length, getD, drop, set}
 use lib.IntN.{ℤ}
 use Rattle.model.specs.declared.Ty.{Ty}
 use Rattle.model.specs.declared.Token.{Token}
+use Rattle.model.specs.Bytes.{twoAt, twoBytes}
 use Rattle.model.specs.Values.{noType, within}
-use Rattle.model.specs.Network.{Proc, box, input, output, Net, Own, vars, taken, got, State, wire, capacity, proc, queue, own, varsOf, takenOf, gotOf, variableTypes}
+use Rattle.model.specs.Network.{Proc, box, input, output, Net, Own, vars, taken, got, State, wire, capacity, proc, queue, own, varsOf, takenOf, gotOf}
 use Rattle.model.specs.States.{tokenFits, stateSize}
+use Rattle.model.proofs.Decoded.{noVariable}
 use Rattle.table.specs.declared.Counts.{Counts}
 use Rattle.places.specs.Standing.{netIn, Standing, stateOf}
 
@@ -40,7 +42,7 @@ afterReceive k t s = withOwn k (got (gotOf (own s k) ++ (t ∷ []))) s
 -- ── what each asks ───────────────────────────────────────────────────────────────────────────
 
 unfoldable pub variableType : Proc → ℕ → Ty  -- the type of a box's variable j
-variableType (box b) j = getD (variableTypes (b .vars)) j noType
+variableType (box b) j = (getD (b .vars) j noVariable) .ty
 variableType (input w ts) j = noType
 variableType (output w room) j = noType
 
@@ -54,7 +56,7 @@ roomAt (box b) = 0
 roomAt (input w ts) = 0
 roomAt (output w room) = room
 
-unfoldable pub wireAt : Proc → ℕ  -- the wire of an output
+unfoldable pub wireAt : Proc → ℕ  -- the wire of an input or an output
 wireAt (box b) = 0
 wireAt (input w ts) = w
 wireAt (output w room) = w
@@ -89,7 +91,16 @@ pub record CanReceive (c : Counts) (n : Net) (s : State) (k : ℕ) (t : Token) :
   pub room : length (gotOf (own s k)) < roomAt (proc n k)
   pub fits : tokenFits ((wire n (wireAt (proc n k))) .ty) t ≡ true
 
+-- an input's count can go up by one
+pub record CountRoom (s : List ℕ) : Type 0 where
+  pub whole : 2 ≤ length s
+  pub small : twoAt s 0 < 65535
+
 -- ── what each leaves ─────────────────────────────────────────────────────────────────────────
+
+-- an input's bytes with a count one higher
+unfoldable pub countBytes : List ℕ → List ℕ
+countBytes s = twoBytes (twoAt s 0 + 1) ++ drop 2 s
 
 -- lent bytes b became b′, which hold the state s′; every byte beyond the state is as it was
 pub record Became (s t p ts b : List ℕ) (c : Counts) (b′ : List ℕ) (s′ : State) : Type 0 where

@@ -1,8 +1,8 @@
 use borrow.Author.Needs.{needs}
-use native.Mathlib.Omega.{arith}
 use Rattle.places.specs.Standing.{bareNet}
-use Rattle.moves.proofs.Laws.{inside}
-use Rattle.moves.proofs.Steps.{take-asks, take-done}
+use Rattle.moves.specs.Moves.{afterTake}
+use Rattle.moves.proofs.Laws.{inside, wire-asks, wire-done}
+use Rattle.moves.proofs.Steps.{take-here}
 use Rattle.moves.proofs.take.Statement.{statement}
 use Rattle.moves.proofs.take.Tie as tie
 
@@ -26,15 +26,17 @@ part-pop-end c =
 pop-requires : tie.Need-pop-requires
 pop-requires c κs =
     let start = c .before .before .before .before .before .before .before in
-    take-asks _ _ _ _ _ _ (start .pre .0) _ _ (c .before .wire-span .ensures) (start .pre .1)
+    wire-asks _ _ _ _ _ _ (start .pre .0) _ _ _ _ _ (start .pre .1 .known) (c .before .wire-span .ensures) (take-here _ _ _ _ _ _ (start .pre .0) _ (start .pre .1))
 
 same-length : tie.Need-same-length
 same-length c = search needs
 
 returns : tie.Need-returns
+unfolding afterTake
 returns c =
     let start = c .before .before .before .before .before .before .before .before .before .before in
-    take-done _ _ _ _ _ _ (start .pre .0) _ _ (c .before .before .before .before .wire-span .ensures) (start .pre .1) _ (c .before .before .pop .ensures) (λ i. c .slice-known2 .given i .fits)
+    wire-done _ _ _ _ _ _ (start .pre .0) _ _ _ _ _ (start .pre .1 .known) (c .before .before .before .before .wire-span .ensures) (take-here _ _ _ _ _ _ (start .pre .0) _ (start .pre .1))
+    _ (c .before .before .pop .ensures) (λ i. c .slice-known2 .given i .fits)
 
 pub take-spec : {M : Type 1} → statement M
 take-spec =
