@@ -3,21 +3,25 @@
 use mathlib.Core.Path.{_≡_, refl, sym, ap, ap₂, _∙_, subst}
 use mathlib.Core.Bool.{Bool, true, false, _&&_}
 use mathlib.Core.List.{List, [], _∷_, _++_, map}
-use Prim.Native.Nat.{ℕ, zero, suc, _+_, _-_, _≤_, _<_}
+use Prim.Native.Nat.{ℕ, zero, suc, _+_, _-_, _/_, _≤_, _<_}
 use native.Mathlib.Omega.{arith}
 use native.Mathlib.Decide.{decLt}
-use lib.Dec.{leb}
-use lib.ListN.{length, getD, drop, take, length-append, length-map, take-append-drop, List·getD-append}
+use lib.Dec.{eqb, leb}
+use lib.ListN.{length, getD, drop, take, length-append, length-map, length-take, length-drop, take-append-drop, List·getD-append}
 use lib.Seq.{take-append-seam, drop-append-seam, getD-append-add}
 use borrow.Author.Tests.{leb-true}
+use Rattle.model.specs.declared.Ty.{Ty}
 use Rattle.model.specs.declared.Token.{Token}
+use Rattle.model.specs.declared.Field.{Field}
+use Rattle.model.specs.declared.Field.the-variants.{At, Cut}
+use Rattle.model.specs.Bytes.{stretch}
 use Rattle.model.specs.Network.{Wire, Proc, box, input, output, Net, Own, State, wire, proc, queue, own, noWire, nobody}
-use Rattle.model.specs.NetworkFile.{Index, Verdict, good, refuse, network, netOf, tabulate, boxAt, inputAt, outputAt}
-use Rattle.model.specs.States.{tokensFrom, tokenFile, inputTypes, wireBytes, ownBytes, bytesOf, wireSize, ownSize, wiresSize, stateSize, stateFits, stateIn, sum}
+use Rattle.model.specs.NetworkFile.{Index, Verdict, good, refuse, fieldAt, network, netOf, tabulate, boxAt, inputAt, outputAt}
+use Rattle.model.specs.States.{tokenField, tokensIn, inputTokens, tokensFrom, tokenFile, inputTypes, wireBytes, ownBytes, bytesOf, wireSize, ownSize, wiresSize, stateSize, stateFits, stateIn, sum}
 use Rattle.model.proofs.Decoded.{GoodNet, GoodProc, getD-map-lt}
 use Rattle.model.proofs.Order.{OneEach}
 use Rattle.model.proofs.Lookup.{wires-length, procs-length}
-use Rattle.model.proofs.Whole.{network-checked, accepted-net, ports-all, one-each, orRefuse-good}
+use Rattle.model.proofs.Whole.{network-checked, accepted-net, ports-all, one-each, next-good, orRefuse-good}
 use Rattle.model.proofs.Kept.{GoodState}
 use Rattle.model.proofs.Sizes.{map-append}
 use Rattle.table.specs.declared.Counts.{Counts}
@@ -26,12 +30,44 @@ use Rattle.octets.proofs.Laws.{Octets}
 use Rattle.queues.specs.Segments.{mid, putMid, wireStart, ownStart, startOf}
 use Rattle.queues.specs.Sound as laid
 use Rattle.queues.proofs.Saved.{good-laid, good-back, good-fits, fits-good}
+use Rattle.queues.proofs.Reading.{length-read}
 use Rattle.queues.proofs.Whole.{wire-part, own-part, length-bytes, state-whole, state-sound}
 use Rattle.lookup.specs.Tabled.{Tabled}
 use Rattle.lookup.proofs.Tabled.{valid}
 use Rattle.places.specs.declared.Span.{Span}
 use Rattle.places.specs.Places.{WireSpan, OwnSpan}
 use Rattle.places.specs.Standing.{bareNet, tokensOf, netIn, Standing, stateOf}
+
+-- ── an accepted token file has few tokens ────────────────────────────────────────────────────
+
+field-few : (t : Ty) (s : List ℕ) (at : ℕ) (f : Field) (r : List Token × ℕ) → inputTokens t s at f ≡ good r → length (r .0) ≤ length s
+unfolding inputTokens tokensIn stretch
+field-few t s at Cut r e = let z : _≡_ {A = ℕ} 0 1 = cc in absurd (omega arith)
+field-few t s at (At tag start len) r e =
+    let b = take len (drop start s) in
+    let q = orRefuse-good (tokenField t tag b) 5 at (good (tokensIn b, start + len)) r e in
+    let g : tokensIn b ≡ r .0 = (let k = q .1 in cc) in
+    let l : length b ≤ length s = rw (length-take, length-drop) (omega arith) in
+    rw (← g) (omega (arith, l, length-read (length b / 5) b))
+
+-- each input's are no more than the file has bytes
+pub tokens-few : (types : List Ty) (s : List ℕ) (at : ℕ) (toks : List (List Token)) → tokensFrom types s at ≡ good toks → (i : ℕ) → length (getD toks i []) ≤ length s
+unfolding tokensFrom
+tokens-few [] s at toks e i =
+    let q = orRefuse-good (eqb at (length s)) 5 at (good []) toks e in
+    let g : [] ≡ toks = (let k = q .1 in cc) in
+    rw (← g) (omega arith)
+tokens-few (t ∷ types) s at toks e i =
+    let a = next-good (inputTokens t s at (fieldAt s at)) _ toks e in
+    let b = next-good (tokensFrom types s (a .found .1)) _ toks (a .then) in
+    let q : a .found .0 ∷ b .found ≡ toks = (let g = b .then in cc) in
+    rw (← q) (by-place (a .found .0) (b .found) i (field-few t s at (fieldAt s at) (a .found) (a .first)) (tokens-few types s (a .found .1) (b .found) (b .first)))
+  where
+    by-place : (x : List Token) (xs : List (List Token)) (j : ℕ) → length x ≤ length s → ((k : ℕ) → length (getD xs k []) ≤ length s) → length (getD (x ∷ xs) j []) ≤ length s
+    by-place x xs zero p q = p
+    by-place x xs (suc k) p q = q k
+
+-- ── what stands ──────────────────────────────────────────────────────────────────────────────
 
 module _ (s t p ts b : List ℕ) (c : Counts) (h : Standing s t p ts b c) where
   abbrev x : Index
@@ -50,6 +86,14 @@ module _ (s t p ts b : List ℕ) (c : Counts) (h : Standing s t p ts b c) where
       let types = inputTypes (netOf s x []) ((netOf s x []) .procs) in
       let f = orRefuse-good (leb (length ts) 16384) 5 0 (tokensFrom types ts 0) (tokensOf s t c ts) (h .tokens) in
       accepted-net s x k (tokensOf s t c ts) ts (f .1)
+
+  -- the tokens of input i are few
+  pub file-few : (i : ℕ) → length (getD (tokensOf s t c ts) i []) ≤ 16384
+  unfolding tokenFile bareNet
+  file-few i =
+      let types = inputTypes (netOf s x []) ((netOf s x []) .procs) in
+      let f = orRefuse-good (leb (length ts) 16384) 5 0 (tokensFrom types ts 0) (tokensOf s t c ts) (h .tokens) in
+      omega (arith, tokens-few types ts 0 (tokensOf s t c ts) (f .1) i, leb-true (length ts) 16384 (f .0))
 
   pub net-one : OneEach n
   unfolding netIn
@@ -111,6 +155,17 @@ module _ (s t p ts b : List ℕ) (c : Counts) (h : Standing s t p ts b c) where
       sym (getD-map-lt ownSize ((netOf s (indexIn t c) (tokensOf s t c ts)) .procs) k nobody 0 (omega (arith, procs-length s (indexIn t c) (tokensOf s t c ts), procs-length s (indexIn t c) [])))
       ∙ ap (λ (z : List ℕ). getD z k 0) (own-sizes s (indexIn t c) (tokensOf s t c ts))
       ∙ getD-map-lt ownSize (m .procs) k nobody 0 l
+
+  -- a wire's or a process's span is the same with the tokens
+  pub wire-span-same : (w : ℕ) (r : Span) → WireSpan m w r → WireSpan n′ w r
+  wire-span-same w r q = record {
+    start = q .start ∙ unfold wireStart in ap (λ (ws : List Wire). startOf (map wireSize ws) w) (sym wires-same);
+    end = q .end ∙ unfold wire in ap (λ (ws : List Wire). r .start + wireSize (getD ws w noWire)) (sym wires-same);
+    inside = omega (arith, q .inside, size-same);
+  }
+
+  pub own-span-same : (k : ℕ) (r : Span) → k < length (m .procs) → OwnSpan m k r → OwnSpan n′ k r
+  own-span-same k r l q = record { start = q .start ∙ sym (own-start-same k); end = q .end ∙ ap (λ (z : ℕ). r .start + z) (sym (own-size-same k l)); inside = omega (arith, q .inside, size-same) }
 
   -- the bytes at a wire's span are its queue, laid out
   pub wire-bytes : (w : ℕ) (r : Span) → w < length (m .wires) → WireSpan m w r → mid (r .start) (r .end - r .start) b ≡ wireBytes (wire n′ w) (queue (stateOf s t c ts b) w)

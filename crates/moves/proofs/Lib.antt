@@ -1,0 +1,3 @@
+-- Laws of the single moves.
+pub mod Laws
+pub mod Steps
