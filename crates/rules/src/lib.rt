@@ -34,7 +34,7 @@ fn pattern_known(c: u8, var: bool) -> bool
 }
 
 // The bytes of a pattern: a constant takes four more.
-fn pattern_size(c: u8) -> usize
+pub fn pattern_size(c: u8) -> usize
     ensures { λ r. ⌜ r ≡ patternSize c ⌝ }
 {
     if (c == 2) | (c == 6) {
@@ -78,7 +78,7 @@ fn patterns_end(b: &[u8], from: usize, n: usize, var: bool) -> Form
 }
 
 // Where the expression at an offset ends.
-fn expression_end(b: &[u8], at: usize) -> Form
+pub fn expression_end(b: &[u8], at: usize) -> Form
     ensures { λ r. ⌜ r ≡ endAt at (expression (drop at (now (b .entry)))) ⌝ }
 {
     if b.len() <= at {

@@ -1,11 +1,26 @@
 // A box's rules tried in the file's order against what the box sees.
+use actions::Faults;
+use expressions::Form;
+use matching::Outs;
+use model::Outcome;
+use shapes::Arity;
 ghost use mathlib.Core.Path.{_≡_};
 ghost use Prim.Native.Nat.{_+_, _≤_, _<_};
 ghost use lib.ListN.{length, getD};
 ghost use Rattle.model.specs.Bytes.{valueAt};
-ghost use Rattle.model.specs.Rules.{patternOf};
-ghost use Rattle.model.specs.Cycles.{matches};
-ghost use Rattle.trying.specs.Views.{tokenOf};
+ghost use Rattle.model.specs.Values.{isTrue};
+ghost use Rattle.model.specs.Rules.{patternOf, ruleRead, readRule};
+ghost use Rattle.model.specs.Cycles.{matches, chosen as chosenOf};
+ghost use Rattle.evaluation.specs.Envs.{envIn};
+ghost use Rattle.trying.specs.Views.{tokenOf, judgeOf};
+ghost use Rattle.trying.specs.Working.{AtGuard, AtActions, judgedAs};
+
+// What comes of a rule whose patterns are ready.
+pub enum Judgement {
+    Quiet,
+    Fires,
+    Faulty { number: u8 },
+}
 
 // Pattern j, at an offset of the rule's body: of an input against its oldest token, of a variable against its value.
 fn port_ready(b: &[u8], at: usize, j: usize, ins: usize, heads: &[u8], vals: &[i64; 8]) -> bool
@@ -25,4 +40,56 @@ fn port_ready(b: &[u8], at: usize, j: usize, ins: usize, heads: &[u8], vals: &[i
     }
     let k = 4 + (j - ins);
     matching::pattern_ready(b, at, 0, evaluation::number_at(vs, k))
+}
+
+// A guard's value.
+fn is_true(z: i64) -> bool
+    ensures { λ r. ⌜ r ≡ isTrue z ⌝ }
+{
+    z != 0
+}
+
+// A rule whose guard is true: its actions are worked out for faults, those of outputs first.
+fn chosen(
+    b: &[u8],
+    outs: usize,
+    sets: usize,
+    a: Arity,
+    vals: &[i64; 8],
+    types: &[u8; 16],
+) -> Judgement
+    requires { ⌜ AtActions a (now b) outs sets (now vals) (now types) ⌝ }
+    ensures { λ r. ⌜ r ≡ judgedAs (chosenOf (envIn (now (vals .entry)) (now (types .entry))) (ruleRead (readRule (a .ins) (a .outs) (a .vars) (now (b .entry)))) 0) ⌝ }
+{
+    let f = actions::actions_fault(b, outs, a.outs, vals, types, false);
+    if let Faults::Fault { number } = f {
+        return Judgement::Faulty { number };
+    }
+    let g = actions::actions_fault(b, sets, a.vars, vals, types, true);
+    if let Faults::Fault { number } = g {
+        return Judgement::Faulty { number };
+    }
+    Judgement::Fires
+}
+
+// A rule whose patterns are ready, from its guard on: the outputs that it writes, and only then the guard, and then the actions.
+fn judge(b: &[u8], at: usize, a: Arity, full: &[u8], vals: &[i64; 8], types: &[u8; 16]) -> Judgement
+    requires { ⌜ AtGuard a (now b) at (now vals) (now types) ⌝ }
+    ensures { λ r. ⌜ r ≡ judgedAs (judgeOf (envIn (now (vals .entry)) (now (types .entry))) (now (full .entry)) (ruleRead (readRule (a .ins) (a .outs) (a .vars) (now (b .entry)))) 0) ⌝ }
+{
+    let Form::Bytes(outs) = rules::expression_end(b, at) else {
+        return Judgement::Quiet;
+    };
+    let Outs::Open { next: sets } = matching::outs_open(b, outs, a.outs, full) else {
+        return Judgement::Quiet;
+    };
+    match actions::value(b, at, vals, types) {
+        Outcome::Fault { number } => Judgement::Faulty { number },
+        Outcome::Value { ty: _, value } => {
+            if !is_true(value) {
+                return Judgement::Quiet;
+            }
+            chosen(b, outs, sets, a, vals, types)
+        }
+    }
 }
