@@ -2,3 +2,5 @@
 pub mod Tokens
 pub mod Offsets
 pub mod Judging
+pub mod Settling
+pub mod Searching

@@ -4,20 +4,25 @@ use mathlib.Core.Path.{_≡_, refl, sym, ap, ap₂, _∙_, subst}
 use mathlib.Core.Bool.{Bool, true, false}
 use mathlib.Core.List.{List, [], _∷_, _++_}
 use Prim.Native.Nat.{ℕ, zero, suc, _+_, _-_, _≤_, _<_}
-use native.Mathlib.Nat.{add-zero}
+use native.Mathlib.Nat.{add-zero, zero-add}
 use native.Mathlib.Omega.{arith}
 use native.Mathlib.Decide.{decLt}
-use lib.ListN.{getD, take, drop, length}
+use lib.ListN.{getD, take, drop, length, length-append}
+use lib.Seq.{take-all}
 use Rattle.model.specs.Bytes.{valueAt}
 use Rattle.model.specs.Expressions.{Read, readMany}
 use Rattle.model.specs.Rules.{Pattern, ignore, patternOf, patternSize, readPattern, sizeOfPattern, patternsSize}
 use Rattle.expressions.specs.declared.Form.the-variants.{Bytes}
 use Rattle.expressions.proofs.Heads.{head-at}
 use Rattle.rules.specs.Bodies.{patternCodes, patternsFrom, endAt}
-use Rattle.rules.proofs.Laying.{Found}
+use Rattle.rules.specs.declared.Parts.{Parts}
+use Rattle.rules.proofs.Laying.{Found, Laid, ruleIs}
+use Rattle.shapes.specs.declared.Arity.{Arity}
+use Rattle.model.proofs.Decoded.{readMany-length}
 use Rattle.typing.specs.Fits.{isRead, listRead}
 use Rattle.typing.proofs.Peeling.{Peel, Peeled, there}
 use Rattle.typing.proofs.Patterns.{pattern-read, pattern-size, pattern-inside, pattern-at}
+use Rattle.typing.proofs.Wholes.{ins-read, vars-read, patterns-size}
 
 -- pattern x stands at an offset of a body
 pub record StandsAt (b : List ℕ) (at : ℕ) (x : Pattern) : Type 0 where
@@ -65,3 +70,68 @@ module _ (v : Bool) (b : List ℕ) where
       let rest : isRead (patternsFrom v n (t .end) b) ≡ true = ap (λ (k : ℕ). isRead (readMany f k (drop (t .end) b))) (sym q) ∙ x .rest in
       rw (x .list ∙ ap (λ (k : ℕ). x .first .thing ∷ listRead (readMany f k (drop (t .end) b))) q)
       (one-before (x .first .thing) (listRead (patternsFrom v n (t .end) b)) n at (t .end) (y .0) (y .1) (λ i h. stands-at n (t .end) i rest h) j l)
+
+-- ── input patterns, then variable patterns ───────────────────────────────────────────────────
+
+size-append : (xs ys : List Pattern) → patternsSize (xs ++ ys) ≡ patternsSize xs + patternsSize ys
+unfolding patternsSize
+size-append [] ys = omega arith
+size-append (x ∷ xs) ys = let e = size-append xs ys in omega arith
+
+-- one pattern more
+pub size-next : (xs : List Pattern) (j : ℕ) → j < length xs → patternsSize (take (suc j) xs) ≡ patternsSize (take j xs) + sizeOfPattern (getD xs j ignore)
+unfolding patternsSize
+size-next [] j l = absurd (omega arith)
+size-next (x ∷ xs) zero l = omega arith
+size-next (x ∷ xs) (suc j) l = let e = size-next xs j (omega arith) in omega arith
+
+stands-both : (b : List ℕ) (xs ys : List Pattern) (at : ℕ)
+    → ((j : ℕ) → j < length xs → StandsAt b (at + patternsSize (take j xs)) (getD xs j ignore))
+    → ((j : ℕ) → j < length ys → StandsAt b (at + patternsSize xs + patternsSize (take j ys)) (getD ys j ignore))
+    → (j : ℕ) → j < length (xs ++ ys) → StandsAt b (at + patternsSize (take j (xs ++ ys))) (getD (xs ++ ys) j ignore)
+unfolding patternsSize
+stands-both b [] ys at f g j l = subst (λ (k : ℕ). StandsAt b (k + patternsSize (take j ys)) (getD ys j ignore)) (add-zero at) (g j l)
+stands-both b (x ∷ xs) ys at f g zero l = f 0 (omega arith)
+stands-both b (x ∷ xs) ys at f g (suc j) l =
+    let e : (k : ℕ) → at + (sizeOfPattern x + k) ≡ at + sizeOfPattern x + k = λ k. omega arith in
+    let f′ : (i : ℕ) → i < length xs → StandsAt b (at + sizeOfPattern x + patternsSize (take i xs)) (getD xs i ignore)
+    = λ i h. subst (λ (k : ℕ). StandsAt b k (getD xs i ignore)) (e (patternsSize (take i xs))) (f (suc i) (omega (arith, h))) in
+    let g′ : (i : ℕ) → i < length ys → StandsAt b (at + sizeOfPattern x + patternsSize xs + patternsSize (take i ys)) (getD ys i ignore)
+    = λ i h. subst (λ (k : ℕ). StandsAt b (k + patternsSize (take i ys)) (getD ys i ignore)) (e (patternsSize xs)) (g i h) in
+    subst (λ (k : ℕ). StandsAt b k (getD (xs ++ ys) j ignore)) (sym (e (patternsSize (take j (xs ++ ys))))) (stands-both b xs ys (at + sizeOfPattern x) f′ g′ j (omega arith))
+
+module _ (a : Arity) (b : List ℕ) (p : Parts) (x : Laid a b p) where
+  abbrev all : List Pattern
+  all = (ruleIs x) .ins ++ (ruleIs x) .vars
+
+  pub ins-length : length ((ruleIs x) .ins) ≡ a .ins
+  unfolding patternsFrom ruleIs
+  ins-length = readMany-length (readPattern (patternCodes false)) (a .ins) (drop 0 b) (x .ins .thing) (x .ins .size) (x .ins .read)
+
+  vars-length : length ((ruleIs x) .vars) ≡ a .vars
+  unfolding patternsFrom ruleIs
+  vars-length = readMany-length (readPattern (patternCodes true)) (a .vars) (drop (p .vars) b) (x .vars .thing) (x .vars .size) (x .vars .read)
+
+  pub all-length : length all ≡ a .ins + a .vars
+  all-length = length-append ((ruleIs x) .ins) ((ruleIs x) .vars) ∙ omega (arith, ins-length, vars-length)
+
+  ins-size : patternsSize ((ruleIs x) .ins) ≡ p .vars
+  unfolding ruleIs
+  ins-size = patterns-size false (a .ins) 0 b (x .ins .read) ∙ omega (arith, x .ins .ends)
+
+  vars-size : p .vars + patternsSize ((ruleIs x) .vars) ≡ p .guard
+  unfolding ruleIs
+  vars-size = ap (λ (j : ℕ). p .vars + j) (patterns-size true (a .vars) (p .vars) b (x .vars .read)) ∙ sym (x .vars .ends)
+
+  -- pattern j stands after those before it, and the guard after all of them
+  pub pattern-stands : (j : ℕ) → j < a .ins + a .vars → StandsAt b (patternsSize (take j all)) (getD all j ignore)
+  unfolding ruleIs listRead
+  pattern-stands j l =
+      subst (λ (k : ℕ). StandsAt b k (getD all j ignore)) (zero-add (patternsSize (take j all)))
+      (stands-both b ((ruleIs x) .ins) ((ruleIs x) .vars) 0
+      (λ i h. rw (x .ins .read) at (stands-at false b (a .ins) 0 i (ins-read a b p x) (omega (arith, h, ins-length))))
+      (λ i h. subst (λ (k : ℕ). StandsAt b (k + patternsSize (take i ((ruleIs x) .vars))) (getD ((ruleIs x) .vars) i ignore)) (omega (arith, ins-size)) (rw (x .vars .read) at (stands-at true b (a .vars) (p .vars) i (vars-read a b p x) (omega (arith, h, vars-length)))))
+      j (omega (arith, l, all-length)))
+
+  pub guard-stands : (j : ℕ) → a .ins + a .vars ≤ j → patternsSize (take j all) ≡ p .guard
+  guard-stands j l = rw (take-all j all (omega (arith, l, all-length))) (size-append ((ruleIs x) .ins) ((ruleIs x) .vars) ∙ rw ins-size vars-size)

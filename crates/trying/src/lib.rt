@@ -3,6 +3,8 @@ use actions::Faults;
 use expressions::Form;
 use matching::Outs;
 use model::Outcome;
+use model::ProcessId;
+use model::RuleId;
 use shapes::Arity;
 ghost use mathlib.Core.Path.{_≡_};
 ghost use Prim.Native.Nat.{_+_, _≤_, _<_};
@@ -10,15 +12,25 @@ ghost use lib.ListN.{length, getD};
 ghost use Rattle.model.specs.Bytes.{valueAt};
 ghost use Rattle.model.specs.Values.{isTrue};
 ghost use Rattle.model.specs.Rules.{patternOf, ruleRead, readRule};
-ghost use Rattle.model.specs.Cycles.{matches, chosen as chosenOf};
+ghost use Rattle.model.specs.NetworkFile.{bodyAt};
+ghost use Rattle.model.specs.Cycles.{matches, chosen as chosenOf, first, upFrom};
 ghost use Rattle.evaluation.specs.Envs.{envIn};
-ghost use Rattle.trying.specs.Views.{tokenOf, judgeOf};
-ghost use Rattle.trying.specs.Working.{AtGuard, AtActions, judgedAs};
+ghost use Rattle.lookup.specs.Entries.{ruleEntry};
+ghost use Rattle.shapes.specs.Shapes.{typesIn};
+ghost use Rattle.trying.specs.Views.{tokenOf, viewEnv, judgeOf, tryOn, markAs};
+ghost use Rattle.trying.specs.Working.{AtGuard, AtActions, Settled, Rules, Smalls, judgedAs};
 
 // What comes of a rule whose patterns are ready.
 pub enum Judgement {
     Quiet,
     Fires,
+    Faulty { number: u8 },
+}
+
+// What trying a box's rules finds: none fires, the first that does, or a fault with its number.
+pub enum Tried {
+    Quiet,
+    Fires { rule: RuleId },
     Faulty { number: u8 },
 }
 
@@ -92,4 +104,68 @@ fn judge(b: &[u8], at: usize, a: Arity, full: &[u8], vals: &[i64; 8], types: &[u
             chosen(b, outs, sets, a, vals, types)
         }
     }
+}
+
+// A rule whose patterns are ready: the types that its expressions may name, then its judgement from its guard on.
+fn settle(
+    b: &[u8],
+    at: usize,
+    a: Arity,
+    ins: &[u8],
+    vars: &[u8],
+    full: &[u8],
+    vals: &[i64; 8],
+) -> Judgement
+    requires { ⌜ Settled a (now ins) (now vars) (now b) at (now vals) ⌝ }
+    ensures { λ r. ⌜ r ≡ judgedAs (judgeOf (viewEnv (typesIn (now (ins .entry)) (a .ins)) (typesIn (now (vars .entry)) (a .vars)) (now (vals .entry)) (ruleRead (readRule (a .ins) (a .outs) (a .vars) (now (b .entry))))) (now (full .entry)) (ruleRead (readRule (a .ins) (a .outs) (a .vars) (now (b .entry)))) 0) ⌝ }
+{
+    let types = typing::scope(b, ins, vars, a);
+    judge(b, at, a, full, vals, &types)
+}
+
+// A box's rules in the file's order, up to the first that is fireable or that faults. The guard is worked out only after the rest holds.
+pub fn search(
+    net: &[u8],
+    table: &[u16],
+    k: ProcessId,
+    count: usize,
+    a: Arity,
+    ins: &[u8],
+    vars: &[u8],
+    heads: &[u8],
+    full: &[u8],
+    vals: &[i64; 8],
+) -> Tried
+    requires { ⌜ Rules (now net) (now table) (k .0) count a (now ins) (now vars) ⌝ }
+    requires { ⌜ Smalls (now vals) ⌝ }
+    ensures { λ q. ⌜ q ≡ markAs (first (λ r. tryOn (typesIn (now (ins .entry)) (a .ins)) (typesIn (now (vars .entry)) (a .vars)) (now (heads .entry)) (now (full .entry)) (now (vals .entry)) (ruleRead (readRule (a .ins) (a .outs) (a .vars) (bodyAt (now (net .entry)) (ruleEntry (now (table .entry)) (k .0) r)))) r) (upFrom 0 count)) ⌝ }
+{
+    let patterns = a.ins + a.vars;
+    let mut r: usize = 0;
+    let found = 'rules: loop {
+        if count <= r {
+            break Tried::Quiet;
+        }
+        let body = lookup::rule_body(net, table, k, RuleId(r as u8));
+        let mut at: usize = 0;
+        let mut j: usize = 0;
+        while j < patterns {
+            if !port_ready(body, at, j, a.ins, heads, vals) {
+                r += 1;
+                continue 'rules;
+            }
+            let size = rules::pattern_size(octets::byte_at(body, at));
+            at += size;
+            j += 1;
+        }
+        match settle(body, at, a, ins, vars, full, vals) {
+            Judgement::Fires => break Tried::Fires {
+                rule: RuleId(r as u8),
+            },
+            Judgement::Faulty { number } => break Tried::Faulty { number },
+            Judgement::Quiet => {}
+        }
+        r += 1;
+    };
+    found
 }
