@@ -8,8 +8,7 @@ use Prim.Native.Nat.{ℕ, zero, suc, _+_, _-_, _*_, _/_, _^_, _≤_, _<_}
 use native.Mathlib.Nat.{div-le-self}
 use native.Mathlib.Omega.{arith}
 use lib.Dec.{eqb, leb, ltb}
-use lib.IntN.{ℤ, pos, _+ℤ_, _-ℤ_, _*ℤ_}
-use lib.Signed.{quotZ, remZ}
+use lib.IntN.{ℤ, pos}
 use lib.Bits.{bitAnd, bitOr, and-lt, or-lt}
 use lib.Pow.{pow-pos}
 use lib.ListN.{getD}
@@ -57,11 +56,11 @@ cond-of t false x y p q = q
 arithmetic-of : (o : ℕ) (t : Ty) (a b : ℤ) → 1 ≤ t .p → Of t (arithmetic o t a b)
 unfolding arithmetic
 arithmetic-of o t a b h =
-    cond-of t (eqb o 10) _ _ (wrap-of t h (a +ℤ b))
-    (cond-of t (eqb o 11) _ _ (wrap-of t h (a -ℤ b))
-    (cond-of t (eqb o 12) _ _ (wrap-of t h (a *ℤ b))
+    cond-of t (eqb o 10) _ _ (wrap-of t h _)
+    (cond-of t (eqb o 11) _ _ (wrap-of t h _)
+    (cond-of t (eqb o 12) _ _ (wrap-of t h _)
     (cond-of t (eqZ b (pos 0)) _ _ tt
-    (cond-of t (eqb o 13) _ _ (wrap-of t h (quotZ a b)) (wrap-of t h (remZ a b))))))
+    (cond-of t (eqb o 13) _ _ (wrap-of t h _) (wrap-of t h _)))))
 
 within-cond : (t : Ty) (b : Bool) (x y : ℤ) → within t x ≡ true → within t y ≡ true → within t (cond b x y) ≡ true
 within-cond t true x y p q = p
