@@ -1,11 +1,11 @@
 -- Every cycle keeps the state well laid out: counts within capacity and room, taken within the file, values within their types.
 -- Assumes nothing.
-use mathlib.Core.Path.{_≡_, refl, sym, ap, ap₂, _∙_, subst}
-use mathlib.Core.Logic.{_≢_, _⊎_, inl, inr, ⊎-elim}
+use mathlib.Core.Path.{_≡_, refl, sym, ap, _∙_, subst}
+use mathlib.Core.Logic.{_≢_, ⊎-elim}
 use mathlib.Core.Bool.{Bool, true, false, not, cond, _&&_, _||_}
 use mathlib.Core.Option.{Option, none, some}
 use mathlib.Core.List.{List, [], _∷_, _++_, map}
-use Prim.Native.Nat.{ℕ, zero, suc, _+_, _-_, _*_, _^_, _≤_, _<_}
+use Prim.Native.Nat.{ℕ, zero, suc, _+_, _-_, _^_, _≤_, _<_}
 use native.Mathlib.Omega.{arith}
 use native.Mathlib.Decide.{decLt, ℕ-discrete}
 use lib.Dec.{eqb, leb, ltb}
@@ -13,28 +13,28 @@ use lib.IntN.{ℤ, pos}
 use lib.Pow.{pow-pos}
 use lib.ListN.{length, getD, drop, length-append, length-map, length-set}
 use lib.Seq.{getD-set-same, getD-set-other}
-use borrow.Author.Tests.{eqb-true, eqb-false, leb-true, ltb-true, lt-ltb, eq-eqb, ne-eqb}
+use borrow.Author.Tests.{eqb-true, leb-true, ltb-true, lt-ltb, ne-eqb}
 use Rattle.model.specs.declared.Ty.{Ty}
 use Rattle.model.specs.declared.Token.{Token}
 use Rattle.model.specs.declared.Outcome.{Outcome}
 use Rattle.model.specs.declared.Outcome.the-variants.{Value, Fault}
 use Rattle.model.specs.Bytes.{signedOf}
-use Rattle.model.specs.Values.{noType, isPlain, isDc, isBool, wellSized, carried, sameType, within, readBack, eqZ}
-use Rattle.model.specs.Expressions.{Exp, Env, Scope, Typed, typed, ill, typeOf, precise, expressionLimits, depthOf, valueOf}
-use Rattle.model.specs.Rules.{Rule, Pattern, ignore, any, only, Action, nothing, bare, send, Shape, Fit, fits, fails, also, fitIf, tagFits, patternFits, patternsFit, matchedType, matchedTypes, scopeOf, hasType, actionFits, actionsFit, actionLimits, ruleFits, sizeOfPattern, sizeOfAction}
-use Rattle.model.specs.Network.{Wire, Variable, Box, Proc, box, input, output, Net, Own, vars, taken, got, State, noToken, noWire, nobody, wire, capacity, proc, rule, queue, own, varsOf, takenOf, gotOf, insOf, outsOf, wireTypes, variableTypes, shapeOf, fresh, loaded, noTokens}
-use Rattle.model.specs.NetworkFile.{count, hit}
+use Rattle.model.specs.Values.{noType, isPlain, isDc, wellSized, carried, sameType, within, readBack, eqZ}
+use Rattle.model.specs.Expressions.{Exp, Env, Typed, typed, ill, typeOf, precise, expressionLimits, depthOf, valueOf}
+use Rattle.model.specs.Rules.{Rule, Pattern, ignore, any, only, Action, nothing, bare, send, Shape, Fit, fits, fails, also, fitIf, tagFits, matchedType, matchedTypes, scopeOf, hasType, actionFits, actionsFit, actionLimits, ruleFits, sizeOfAction}
+use Rattle.model.specs.Network.{Variable, Box, Proc, box, input, output, Net, Own, vars, taken, got, State, noToken, nobody, wire, capacity, proc, rule, queue, own, varsOf, takenOf, gotOf, insOf, outsOf, wireTypes, variableTypes, shapeOf, fresh, loaded, noTokens}
+use Rattle.model.specs.NetworkFile.{count}
 use Rattle.model.specs.States.{tokenFits, tokensFit}
-use Rattle.model.specs.Cycles.{upFrom, tried, tryRule, empty, oldest, full, reads, matches, readyIn, readyIns, readyVars, readyOuts, readyRule, Move, Deed, seen, look, moves, matchedValue, envOf, orZero, result, newVar, newVars, readsOf, sentOf, present, keptOf, deedOf, act, Mark, fires, markOf, mark, deed, fire, fireAll, ruleOf, cycleIn, markedOf, processes}
+use Rattle.model.specs.Cycles.{upFrom, tried, tryRule, empty, oldest, full, reads, matches, readyIn, readyIns, readyVars, readyOuts, readyRule, Deed, seen, look, moves, matchedValue, envOf, orZero, result, newVar, newVars, readsOf, sentOf, present, keptOf, deedOf, act, Mark, fires, markOf, mark, deed, fire, fireAll, ruleOf, cycleIn, markedOf, processes}
 use Rattle.model.specs.Orders.{joined, onWire, Sound, Order, Reached, at-load, cycled}
 use Rattle.model.proofs.Tests.{and-left, and-right, both, and₂, and₃, or-true}
 use Rattle.model.proofs.Wrapping.{read-within}
-use Rattle.model.proofs.Typing.{Of, FineScope, GoodEnv, value-of, same-type}
+use Rattle.model.proofs.Typing.{Of, GoodEnv, value-of, same-type}
 use Rattle.model.proofs.Wires.{queue-act}
 use Rattle.model.proofs.Readiness.{nonempty, first-in, try-is, try-fires, flag-fires}
-use Rattle.model.proofs.Order.{OneEach, Ready, Due, due-next, deed-frame, queue-past, length-act, hit-same, hit-other}
+use Rattle.model.proofs.Order.{OneEach, Due, due-next, deed-frame, length-act, hit-same, hit-other}
 use Rattle.model.proofs.Sound.{sound-next, order-due, fires-of, marked-in, marked-le, load-sound, load-empty, reached-sound}
-use Rattle.model.proofs.Decoded.{Each, GoodType, GoodWire, GoodVariable, GoodRule, GoodBox, GoodProc, GoodNet, noVariable, actionTag, getD-map-lt}
+use Rattle.model.proofs.Decoded.{Each, GoodType, GoodVariable, GoodRule, GoodBox, GoodProc, GoodNet, noVariable, actionTag, getD-map-lt}
 
 -- ── tokens of a type ─────────────────────────────────────────────────────────────────────────
 
@@ -185,13 +185,13 @@ hasType-fits own at t (ill k) e = let z : _≡_ {A = ℕ} 0 1 = cc in absurd (om
 
 -- ── values that a wire carries ───────────────────────────────────────────────────────────────
 
-carried-low : (t : Ty) → 1 ≤ t .p → 1 ≤ (carried t) .p
+pub carried-p : (t : Ty) → (carried t) .p ≡ t .p
 unfolding carried
-carried-low t h = by-kind (isDc t)
+carried-p t = by-kind (isDc t)
   where
-    by-kind : (b : Bool) → 1 ≤ (cond b (record { kind = t .kind - 2; p = t .p }) t) .p
-    by-kind true = h
-    by-kind false = h
+    by-kind : (b : Bool) → (cond b (record { kind = t .kind - 2; p = t .p }) t) .p ≡ t .p
+    by-kind true = refl
+    by-kind false = refl
 
 zero-within : (t : Ty) → 1 ≤ t .p → within t (pos 0) ≡ true
 unfolding readBack signedOf
@@ -259,7 +259,7 @@ module _ (n : Net) (gn : GoodNet n) (s : State) (gs : GoodState n s) where
       by-tag : (b : Bool) → (eqb tag 0 || eqb tag 3) ≡ b → tag ≡ (oldest (queue s w)) .tag → 1 ≤ length (queue s w) → isPlain (cond b (carried ((wire n w) .ty)) noType) ≡ true
           → Matched (cond b (carried ((wire n w) .ty)) noType) ((oldest (queue s w)) .value)
       by-tag true c q l f = record {
-        low = carried-low ((wire n w) .ty) ((wire-type w h) .low);
+        low = omega (arith, carried-p ((wire n w) .ty), (wire-type w h) .low);
         fits = token-carries ((wire n w) .ty) (oldest (queue s w)) (oldest-fits ((wire n w) .ty) (queue s w) (gs .fit w h) l) (rw q at c);
       }
       by-tag false c q l f = no-type f
@@ -354,7 +354,7 @@ module _ (n : Net) (gn : GoodNet n) (s : State) (gs : GoodState n s) (b : Box) (
     result-fits at t (bare tag) h f l g k q = rw (← some-same q) (mark-token t tag (fitIf-fits (tagFits t tag) at f) g)
     result-fits at t (send tag e) h f l g k q =
         let p = also-fits (hasType at (at + 1) (carried t) (typeOf (en .scope) e)) (fitIf (tagFits t tag) at) f in
-        let w = sent-within (carried t) e (carried-low t h) (and-left (expressionLimits e) true l) (hasType-fits at (at + 1) (carried t) (typeOf (en .scope) e) (p .0)) in
+        let w = sent-within (carried t) e (omega (arith, carried-p t)) (and-left (expressionLimits e) true l) (hasType-fits at (at + 1) (carried t) (typeOf (en .scope) e) (p .0)) in
         rw (← some-same q) (value-token t tag (orZero (valueOf en e)) (fitIf-fits (tagFits t tag) at (p .1)) g w)
 
     results-fit : (at : ℕ) (ws : List ℕ) (acts : List Action) → Each (λ w. w < length (n .wires)) 0 ws → actionsFit (en .scope) at (wireTypes (n .wires) ws) acts ≡ fits

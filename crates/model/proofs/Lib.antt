@@ -15,3 +15,4 @@ pub mod Whole
 pub mod Sizes
 pub mod AnyOrder
 pub mod Kept
+pub mod Saved

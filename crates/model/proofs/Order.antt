@@ -1,23 +1,23 @@
 -- Any two orders of the same firings end in the same state.
 -- Assumes nothing.
-use mathlib.Core.Path.{_≡_, refl, sym, ap, ap₂, _∙_, subst}
-use mathlib.Core.Logic.{_≢_, _⊎_, inl, inr}
+use mathlib.Core.Path.{_≡_, refl, sym, ap, ap₂, _∙_}
+use mathlib.Core.Logic.{_≢_}
 use mathlib.Core.Bool.{Bool, true, false}
 use mathlib.Core.Option.{Option, none, some}
 use mathlib.Core.List.{List, [], _∷_, _++_, append-nil, append-assoc}
-use Prim.Native.Nat.{ℕ, zero, suc, _+_, _-_, _≤_, _<_}
+use Prim.Native.Nat.{ℕ, _+_, _≤_, _<_}
 use native.Mathlib.Omega.{arith}
 use native.Mathlib.Nat.{add-comm}
 use native.Mathlib.Decide.{decLt}
 use lib.Dec.{eqb}
-use lib.ListN.{length, getD, set, drop, length-set, length-append, length-drop, List·getD-eq-default}
+use lib.ListN.{length, drop, length-append, length-drop, List·getD-eq-default}
 use lib.Seq.{drop-drop, drop-append-le, getD-set-other, set-comm, ext-getD}
 use borrow.Author.Tests.{eqb-true, eqb-false, eq-eqb, ne-eqb}
 use Rattle.model.specs.declared.Token.{Token}
-use Rattle.model.specs.Network.{Proc, Net, State, Own, queue, own, proc, nobody, capacity, insOf, outsOf}
+use Rattle.model.specs.Network.{Net, State, Own, queue, own, proc, nobody, capacity, insOf, outsOf}
 use Rattle.model.specs.NetworkFile.{hit, count, ports}
-use Rattle.model.specs.Cycles.{Move, Deed, Mark, takeAll, putAll, act, moves, look, seen, reads, oldest, deed, deedOf, ruleOf, fire, fireAll, readsOf, sentOf}
-use Rattle.model.specs.Orders.{joined, onWire}
+use Rattle.model.specs.Cycles.{Deed, Mark, takeAll, act, moves, look, seen, oldest, deed, deedOf, ruleOf, fire, fireAll, readsOf, sentOf}
+use Rattle.model.specs.Orders.{onWire}
 use Rattle.model.proofs.Wires.{length-takeAll, length-putAll, queue-act, length-joined, moves-count, port-one, port-two}
 
 -- no wire has two reading ports or two writing ports

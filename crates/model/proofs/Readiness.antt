@@ -1,29 +1,28 @@
 -- A marked process is ready.
 -- Assumes nothing.
-use mathlib.Core.Path.{_≡_, refl, sym, ap, ap₂, _∙_, subst}
-use mathlib.Core.Logic.{_≢_, _⊎_, inl, inr}
-use mathlib.Core.Bool.{Bool, true, false, not, _&&_, _||_}
+use mathlib.Core.Path.{_≡_, refl, _∙_, subst}
+use mathlib.Core.Logic.{_≢_}
+use mathlib.Core.Bool.{Bool, true, false, not, _&&_}
 use mathlib.Core.Option.{Option, none, some}
-use mathlib.Core.List.{List, [], _∷_, _++_, map}
-use Prim.Native.Nat.{ℕ, zero, suc, _+_, _-_, _≤_, _<_}
+use mathlib.Core.List.{List, [], _∷_, map}
+use Prim.Native.Nat.{ℕ, zero, suc, _+_, _≤_, _<_}
 use native.Mathlib.Omega.{arith}
-use native.Mathlib.Decide.{decLt}
-use lib.Dec.{eqb, leb, ltb}
+use lib.Dec.{eqb, ltb}
 use lib.IntN.{ℤ}
-use lib.ListN.{length, getD}
-use borrow.Author.Tests.{eqb-true, eqb-false, leb-false}
+use lib.ListN.{length}
+use borrow.Author.Tests.{eqb-true, leb-false}
 use Rattle.model.specs.declared.Token.{Token}
 use Rattle.model.specs.declared.Outcome.{Outcome}
 use Rattle.model.specs.declared.Outcome.the-variants.{Value, Fault}
 use Rattle.model.specs.Values.{isTrue}
 use Rattle.model.specs.Expressions.{Env, valueOf}
 use Rattle.model.specs.Rules.{Rule, Pattern, Action, nothing, bare, send}
-use Rattle.model.specs.Network.{Proc, box, input, output, Box, Net, State, Own, queue, own, proc, nobody, capacity, rule, varsOf, takenOf, gotOf, insOf, outsOf}
-use Rattle.model.specs.NetworkFile.{hit, count, ports}
-use Rattle.model.specs.Cycles.{Move, Deed, Mark, quiet, fires, faulty, moves, look, seen, reads, writes, matches, oldest, empty, full, readyIn, readyIns, readyOuts, readyVars, readyRule, result, deed, deedOf, envOf, ruleOf, readsOf, sentOf, faultless, actionsOf, chosen, attempt, guarded, tryRule, orElse, first, tried, flag, markOf, mark}
+use Rattle.model.specs.Network.{Proc, box, input, output, Box, Net, State, Own, queue, own, proc, capacity, rule, varsOf, takenOf, gotOf, insOf, outsOf}
+use Rattle.model.specs.NetworkFile.{hit, count}
+use Rattle.model.specs.Cycles.{Mark, quiet, fires, faulty, moves, look, seen, reads, writes, matches, oldest, empty, full, readyIn, readyIns, readyOuts, readyVars, readyRule, result, deed, deedOf, envOf, ruleOf, readsOf, sentOf, faultless, actionsOf, chosen, attempt, guarded, tryRule, orElse, first, tried, flag, markOf, mark}
 use Rattle.model.specs.Orders.{joined, onWire}
 use Rattle.model.proofs.Tests.{and-left, and-right, not-true}
-use Rattle.model.proofs.Wires.{length-joined, moves-count, port-one}
+use Rattle.model.proofs.Wires.{moves-count, port-one}
 use Rattle.model.proofs.Order.{OneEach, Ready, nobody-reads, nobody-writes, hit-same}
 
 -- ── tests ────────────────────────────────────────────────────────────────────────────────────

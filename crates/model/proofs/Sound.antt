@@ -1,9 +1,8 @@
 -- Demand 3: any order ends a cycle in the same state, and each single firing keeps the network sound.
 -- Assumes nothing.
-use mathlib.Core.Path.{_≡_, refl, sym, ap, ap₂, _∙_, subst}
+use mathlib.Core.Path.{_≡_, refl, sym, ap, ap₂, _∙_}
 use mathlib.Core.Logic.{_≢_}
 use mathlib.Core.Bool.{Bool, true, false}
-use mathlib.Core.Option.{Option, none, some}
 use mathlib.Core.List.{List, [], _∷_, _++_, map, append-nil, append-assoc}
 use Prim.Native.Nat.{ℕ, zero, suc, _+_, _≤_, _<_}
 use native.Mathlib.Omega.{arith}
@@ -12,13 +11,13 @@ use lib.Dec.{eqb}
 use lib.ListN.{length, getD, drop, replicate, length-map, List·getD-eq-default}
 use borrow.Author.Tests.{eqb-true, eqb-false}
 use Rattle.model.specs.declared.Token.{Token}
-use Rattle.model.specs.Network.{Net, Wire, State, queue, own, proc, capacity, wire, noWire, loaded, noTokens, insOf}
+use Rattle.model.specs.Network.{Net, Wire, State, queue, proc, capacity, wire, noWire, loaded, noTokens, insOf}
 use Rattle.model.specs.NetworkFile.{hit, count}
 use Rattle.model.specs.States.{bytesOf}
-use Rattle.model.specs.Cycles.{Move, Deed, Mark, quiet, fires, faulty, act, moves, look, seen, reads, oldest, deed, deedOf, ruleOf, readsOf, mark, fire, fireAll, cycleIn, marked, keepIf, markedFrom, markedOf, processes, upFrom}
+use Rattle.model.specs.Cycles.{Deed, Mark, quiet, fires, faulty, act, moves, look, seen, oldest, deed, deedOf, ruleOf, readsOf, mark, fire, fireAll, cycleIn, marked, keepIf, markedFrom, markedOf, processes, upFrom}
 use Rattle.model.specs.Orders.{joined, onWire, deeds, putOn, takenFrom, Order, Reached, at-load, cycled, Sound, midway, Firing, AnyOrder}
 use Rattle.model.proofs.Wires.{queue-act}
-use Rattle.model.proofs.Order.{OneEach, Ready, Changed, changed, Due, due-next, any-order, deed-frame, length-act, queue-past, hit-same, hit-other, took-one}
+use Rattle.model.proofs.Order.{OneEach, Ready, changed, Due, due-next, any-order, deed-frame, length-act, queue-past, hit-same, hit-other, took-one}
 use Rattle.model.proofs.Readiness.{marked-ready}
 
 -- ── what is taken is the oldest ──────────────────────────────────────────────────────────────

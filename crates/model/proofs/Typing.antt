@@ -1,15 +1,14 @@
 -- The value of a well-typed expression is of its type.
 -- Assumes nothing.
-use mathlib.Core.Path.{_≡_, refl, sym, ap, ap₂, _∙_, subst}
+use mathlib.Core.Path.{_≡_, refl, sym, _∙_, subst}
 use mathlib.Core.Bool.{Bool, true, false, not, cond, _&&_, _||_}
-use mathlib.Core.Logic.{_⊎_, ⊎-elim}
-use mathlib.Core.List.{List, [], _∷_}
-use Prim.Native.Nat.{ℕ, zero, suc, _+_, _-_, _*_, _/_, _^_, _≤_, _<_}
+use mathlib.Core.Logic.{⊎-elim}
+use Prim.Native.Nat.{ℕ, _-_, _^_, _≤_, _<_}
 use native.Mathlib.Nat.{div-le-self}
 use native.Mathlib.Omega.{arith}
-use lib.Dec.{eqb, leb, ltb}
+use lib.Dec.{eqb, leb}
 use lib.IntN.{ℤ, pos}
-use lib.Bits.{bitAnd, bitOr, and-lt, or-lt}
+use lib.Bits.{and-lt, or-lt}
 use lib.Pow.{pow-pos}
 use lib.ListN.{getD}
 use borrow.Author.Tests.{eqb-true, leb-true, leb-false, le-leb, lt-leb}
@@ -18,7 +17,7 @@ use Rattle.model.specs.declared.Outcome.{Outcome}
 use Rattle.model.specs.declared.Outcome.the-variants.{Value, Fault}
 use Rattle.model.specs.Bytes.{modZ}
 use Rattle.model.specs.Values.{bool, noType, isBool, isNumber, isPlain, wellSized, inPrecision, sameType, within, least, greatest, pattern, readBack, wrap, truth, eqZ, isTrue, arithmetic, bitwise, compare, logic, apply, applyOne}
-use Rattle.model.specs.Expressions.{Exp, literal, matched, variable, cast, one, two, if, Scope, Typed, typed, ill, judged, operandAt, oneType, twoType, countType, typeOf, precise, Env, then, valueOf}
+use Rattle.model.specs.Expressions.{Exp, literal, matched, variable, cast, one, two, if, Scope, Typed, typed, ill, judged, operandAt, oneType, twoType, typeOf, precise, Env, then, valueOf}
 use Rattle.model.proofs.Tests.{and-left, and-right, and₂, and₃, or-true}
 use Rattle.model.proofs.Wrapping.{pattern-lt, read-within, wrap-within}
 

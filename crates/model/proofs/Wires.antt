@@ -1,19 +1,18 @@
 -- The queues after a firing, wire by wire.
 -- Assumes nothing.
-use mathlib.Core.Path.{_≡_, refl, sym, ap, _∙_, subst}
+use mathlib.Core.Path.{_≡_, refl, sym, ap, _∙_}
 use mathlib.Core.Logic.{_≢_}
 use mathlib.Core.Bool.{Bool, true, false}
 use mathlib.Core.Option.{Option, none, some}
 use mathlib.Core.List.{List, [], _∷_, _++_, append-nil, append-assoc}
 use Prim.Native.Nat.{ℕ, zero, suc, _+_, _≤_, _<_}
 use native.Mathlib.Omega.{arith}
-use native.Mathlib.Nat.{zero-add, suc-add}
 use lib.Dec.{eqb}
-use lib.ListN.{length, getD, set, drop, length-set, length-append}
+use lib.ListN.{length, getD, set, drop, length-set}
 use lib.Seq.{drop-nil, getD-set-same, getD-set-other, lt-length-set}
 use borrow.Author.Tests.{eqb-true, eqb-false}
 use Rattle.model.specs.declared.Token.{Token}
-use Rattle.model.specs.Network.{Proc, Net, State, queue, nobody}
+use Rattle.model.specs.Network.{Proc, State, queue, nobody}
 use Rattle.model.specs.NetworkFile.{hit, count, ports}
 use Rattle.model.specs.Cycles.{Move, Deed, takeAll, putAll, act, moves}
 use Rattle.model.specs.Orders.{joined, onWire}
