@@ -1,7 +1,7 @@
 -- Every cycle keeps the state well laid out: counts within capacity and room, taken within the file, values within their types.
 -- Assumes nothing.
-use mathlib.Core.Path.{_≡_, refl, sym, ap, _∙_, subst}
-use mathlib.Core.Logic.{_≢_, ⊎-elim}
+use mathlib.Core.Path.{_≡_, refl, ap, _∙_, subst}
+use mathlib.Core.Logic.{⊎-elim}
 use mathlib.Core.Bool.{Bool, true, false, not, cond, _&&_, _||_}
 use mathlib.Core.Option.{Option, none, some}
 use mathlib.Core.List.{List, [], _∷_, _++_, map}
@@ -25,15 +25,14 @@ use Rattle.model.specs.Rules.{Rule, Pattern, ignore, any, only, Action, 
 use Rattle.model.specs.Network.{Variable, Box, Proc, box, input, output, Net, Own, vars, taken, got, State, noToken, nobody, wire, capacity, proc, rule, queue, own, varsOf, takenOf, gotOf, insOf, outsOf, wireTypes, variableTypes, shapeOf, fresh, loaded, noTokens}
 use Rattle.model.specs.NetworkFile.{count}
 use Rattle.model.specs.States.{tokenFits, tokensFit}
-use Rattle.model.specs.Cycles.{upFrom, tried, tryRule, empty, oldest, full, reads, matches, readyIn, readyIns, readyVars, readyOuts, readyRule, Deed, seen, look, moves, matchedValue, envOf, orZero, result, newVar, newVars, readsOf, sentOf, present, keptOf, deedOf, act, Mark, fires, markOf, mark, deed, fire, fireAll, ruleOf, cycleIn, markedOf, processes}
+use Rattle.model.specs.Cycles.{empty, oldest, full, reads, matches, readyIn, readyIns, readyVars, readyOuts, readyRule, Deed, seen, look, moves, matchedValue, envOf, orZero, result, newVar, newVars, readsOf, sentOf, present, keptOf, deedOf, act, Mark, fires, markOf, mark, deed, fire, fireAll, ruleOf, cycleIn}
 use Rattle.model.specs.Orders.{joined, onWire, Sound, Order, Reached, at-load, cycled}
 use Rattle.model.proofs.Tests.{and-left, and-right, both, and₂, and₃, or-true}
 use Rattle.model.proofs.Wrapping.{read-within}
-use Rattle.model.proofs.Typing.{Of, GoodEnv, value-of, same-type}
-use Rattle.model.proofs.Wires.{queue-act}
-use Rattle.model.proofs.Readiness.{nonempty, first-in, try-is, try-fires, flag-fires}
-use Rattle.model.proofs.Order.{OneEach, Due, due-next, deed-frame, length-act, hit-same, hit-other}
-use Rattle.model.proofs.Sound.{sound-next, order-due, fires-of, marked-in, marked-le, load-sound, load-empty, reached-sound}
+use Rattle.model.proofs.Typing.{Of, Named, GoodEnv, value-of, same-type}
+use Rattle.model.proofs.Readiness.{nonempty, rule-chosen, flag-fires}
+use Rattle.model.proofs.Order.{OneEach, Due, due-first, due-other, due-next, deed-frame, queue-act, length-act, hit-same}
+use Rattle.model.proofs.Sound.{sound-next, order-due, named-fires, load-sound, load-empty, reached-sound}
 use Rattle.model.proofs.Decoded.{Each, GoodType, GoodVariable, GoodRule, GoodBox, GoodProc, GoodNet, noVariable, actionTag, getD-map-lt}
 
 -- ── tokens of a type ─────────────────────────────────────────────────────────────────────────
@@ -242,12 +241,8 @@ module _ (n : Net) (gn : GoodNet n) (s : State) (gs : GoodState n s) where
   wire-type w h = (gn .wires w h) .ty
 
   -- the matched value of an input is of its type
-  record Matched (t : Ty) (z : ℤ) : Type 0 where
-    low : 1 ≤ t .p
-    fits : within t z ≡ true
-
   first-matched : (w : ℕ) (p : Pattern) → w < length (n .wires) → readyIn p (queue s w) ≡ true
-      → isPlain (matchedType ((wire n w) .ty) p) ≡ true → Matched (matchedType ((wire n w) .ty) p) (matchedValue (seen (reads p) (queue s w)))
+      → isPlain (matchedType ((wire n w) .ty) p) ≡ true → Named (matchedType ((wire n w) .ty) p) (matchedValue (seen (reads p) (queue s w)))
   unfolding matchedType reads seen matchedValue readyIn matches
   first-matched w ignore h r e = no-type e
   first-matched w (only tag z) h r e = no-type e
@@ -257,7 +252,7 @@ module _ (n : Net) (gn : GoodNet n) (s : State) (gs : GoodState n s) where
       by-tag (eqb tag 0 || eqb tag 3) refl (eqb-true tag ((oldest q) .tag) (m .1)) (nonempty q (m .0)) e
     where
       by-tag : (b : Bool) → (eqb tag 0 || eqb tag 3) ≡ b → tag ≡ (oldest (queue s w)) .tag → 1 ≤ length (queue s w) → isPlain (cond b (carried ((wire n w) .ty)) noType) ≡ true
-          → Matched (cond b (carried ((wire n w) .ty)) noType) ((oldest (queue s w)) .value)
+          → Named (cond b (carried ((wire n w) .ty)) noType) ((oldest (queue s w)) .value)
       by-tag true c q l f = record {
         low = omega (arith, carried-p ((wire n w) .ty), (wire-type w h) .low);
         fits = token-carries ((wire n w) .ty) (oldest (queue s w)) (oldest-fits ((wire n w) .ty) (queue s w) (gs .fit w h) l) (rw q at c);
@@ -266,7 +261,7 @@ module _ (n : Net) (gn : GoodNet n) (s : State) (gs : GoodState n s) where
 
   ins-matched : (ws : List ℕ) (ps : List Pattern) → Each (λ w. w < length (n .wires)) 0 ws → readyIns s ws ps ≡ true → (i : ℕ)
       → isPlain (getD (matchedTypes (wireTypes (n .wires) ws) ps) i noType) ≡ true
-      → Matched (getD (matchedTypes (wireTypes (n .wires) ws) ps) i noType) (getD (map matchedValue (look s ws (map reads ps))) i (pos 0))
+      → Named (getD (matchedTypes (wireTypes (n .wires) ws) ps) i noType) (getD (map matchedValue (look s ws (map reads ps))) i (pos 0))
   unfolding matchedTypes wireTypes look readyIns
   ins-matched [] [] a r i e = no-type e
   ins-matched [] (p ∷ ps) a r i e = no-type e
@@ -334,18 +329,14 @@ module _ (n : Net) (gn : GoodNet n) (s : State) (gs : GoodState n s) (b : Box) (
   env-good : readyIns s (b .ins) (r .ins) ≡ true → GoodEnv en
   unfolding envOf scopeOf shapeOf
   env-good h = record {
-    scope = record {
-      ins = λ i e. (ins-matched n gn s gs (b .ins) (r .ins) (gb .ins) h i e) .low;
-      vars = λ j e. (let l = plain-variable (b .vars) j e in rw (variable-type (b .vars) j l) ((gb .vars j l) .ty .low));
-    };
-    ins = λ i e. (ins-matched n gn s gs (b .ins) (r .ins) (gb .ins) h i e) .fits;
-    vars = λ j e. (let l = plain-variable (b .vars) j e in rw (variable-type (b .vars) j l) (go .each j l));
+    ins = ins-matched n gn s gs (b .ins) (r .ins) (gb .ins) h;
+    vars = λ j e. (let l = plain-variable (b .vars) j e in rw (variable-type (b .vars) j l) (record { low = (gb .vars j l) .ty .low; fits = go .each j l }));
   }
 
   module _ (ge : GoodEnv en) where
     -- an expression of type t works out to a value of it
     sent-within : (t : Ty) (e : Exp) → 1 ≤ t .p → expressionLimits e ≡ true → typeOf (en .scope) e ≡ typed t → within t (orZero (valueOf en e)) ≡ true
-    sent-within t e h l q = orZero-within t (valueOf en e) h (value-of en ge e (precise-of e l) t q)
+    sent-within t e h l q = orZero-within t (valueOf en e) h ((value-of en ge e (precise-of e l) t q) .1)
 
     result-fits : (at : ℕ) (t : Ty) (a : Action) → 1 ≤ t .p → actionFits (en .scope) at t a ≡ fits → actionLimits (a ∷ []) ≡ true → actionTag a ≡ true
         → (k : Token) → result en a ≡ some k → tokenFits t k ≡ true
@@ -422,23 +413,6 @@ module _ (n : Net) (gn : GoodNet n) (s : State) (gs : GoodState n s) (b : Box) (
 
 -- ── the deed of a marked process ─────────────────────────────────────────────────────────────
 
-upFrom-in : (i c j : ℕ) → 1 ≤ count j (upFrom i c) → j < i + c
-unfolding upFrom count
-upFrom-in i zero j h = absurd (omega arith)
-upFrom-in i (suc c) j h = by-place (ℕ-discrete i j) (upFrom-in (suc i) c j)
-  where
-    by-place : Dec (i ≡ j) → (1 ≤ count j (upFrom (suc i) c) → j < suc i + c) → j < i + suc c
-    by-place (yes e) ih = omega (arith, e)
-    by-place (no f) ih = omega (arith, ih (omega (arith, h, hit-other i j f)))
-
--- a marked box has a rule of that number, which is ready
-pub rule-chosen : (n : Net) (s : State) (b : Box) (o : Own) (r : ℕ) → markOf n s (box b) o ≡ fires r → (r < length (b .rules)) × (readyRule n s b (rule b r) (varsOf o) ≡ true)
-unfolding markOf tried
-rule-chosen n s b o r e =
-    let f = first-in (tryRule n s b (varsOf o)) (upFrom 0 (length (b .rules))) r e in
-    let q = try-is n s b (varsOf o) (f .0) r (f .2) in
-    (omega (arith, q, upFrom-in 0 (length (b .rules)) (f .0) (f .1)), try-fires n s b (varsOf o) (f .0) r (f .2))
-
 module _ (n : Net) (gn : GoodNet n) (s : State) (gs : GoodState n s) where
   output-of : (w room : ℕ) (o : Own) (r : ℕ) → GoodProc n (output w room) → GoodOwn n (output w room) o → markOf n s (output w room) o ≡ fires r
       → GoodDeed n (output w room) (deedOf n (output w room) r (look s (insOf (output w room)) (readsOf (output w room) r)) o)
@@ -478,26 +452,21 @@ module _ (n : Net) (m : ℕ → Mark) (one : OneEach n) where
   unfolding fireAll count
   all-good [] s ds d q g x = g
   all-good (k ∷ ks) s ds d q g x =
-      let r = d .ready k (omega (arith, hit-same k k refl)) in
+      let r = due-first n m one k ks s d in
       let here = x k (omega (arith, hit-same k k refl)) in
       let q′ = sound-next n m one k s ds r q in
-      all-good ks (fire n m k s) (ds ++ (deed n m k s ∷ [])) (due-next n m one k ks s d) q′
-      (fire-good k s g (here .0) (here .1) (q′ .fits))
+      all-good ks (fire n m k s) (ds ++ (deed n m k s ∷ [])) (due-next n m one k ks s d) q′ (fire-good k s g (here .0) (here .1) (q′ .fits))
       (λ j h.
-      let ne : j ≢ k = λ e. absurd (omega (arith, h, d .once j, hit-same k j (sym e))) in
+      let o = due-other n m one k ks s d j h in
       let there = x j (omega (arith, h)) in
-      (there .0, rw (deed-frame n m one j k s ne (d .ready j (omega (arith, h)))) (there .1)))
+      (there .0, rw (deed-frame n m one j k s (o .0) (o .1) r) (there .1)))
 
 module _ (n : Net) (gn : GoodNet n) (one : OneEach n) where
   pub cycle-good : (s : State) (ds : List Deed) (ks : List ℕ) → Sound n s ds → GoodState n s → Order n s ks → GoodState n (cycleIn n ks s)
-  unfolding cycleIn markedOf processes
+  unfolding cycleIn
   cycle-good s ds ks q g o =
       all-good n (mark n s) one ks s ds (order-due n one s ds ks q o) q g
-      (λ k h.
-      let c : 1 ≤ count k (markedOf n s) = omega (arith, o .names k) in
-      let f = fires-of (mark n s k) (marked-in (mark n s) (processes n) k c) in
-      let l : k < length (n .procs) = omega (arith, upFrom-in 0 (length (n .procs)) k (omega (arith, c, marked-le (mark n s) (processes n) k))) in
-      (l, deed-good n gn s g (mark n s) k (f .0) l (f .1) (f .1)))
+      (λ k h. (let f = named-fires n s ks o k h in (f .2, deed-good n gn s g (mark n s) k (f .0) (f .2) (f .1) (f .1))))
 
   fresh-good : (p : Proc) → GoodProc n p → GoodOwn n p (fresh p)
   unfolding fresh varsOf takenOf gotOf tokensFit

@@ -3,7 +3,6 @@ pub mod Workbook
 pub mod Tests
 pub mod Wrapping
 pub mod Typing
-pub mod Wires
 pub mod Order
 pub mod Readiness
 pub mod Sound

@@ -20,8 +20,7 @@ use Rattle.model.specs.NetworkFile.{Index, fieldAt, Verdict, good, refus
 use Rattle.model.specs.States.{tokensFit, tokenField, tokensIn, inputTokens, tokensFrom, tokenFile, inputTypes}
 use Rattle.model.specs.Calls.{tokened, withTokens}
 use Rattle.model.proofs.Tests.{and₂, and₃}
-use Rattle.model.proofs.Wires.{count-append}
-use Rattle.model.proofs.Order.{OneEach, hit-other}
+use Rattle.model.proofs.Order.{OneEach, count-append, hit-other}
 use Rattle.model.proofs.Accepted.{Valid, fields-valid}
 use Rattle.model.proofs.Lookup.{wires-length}
 use Rattle.model.proofs.Decoded.{getD-map-lt, Each, each-append, each-tabulate, length-tabulate, getD-tabulate, body-at, wire-good, box-good, GoodProc, GoodNet}

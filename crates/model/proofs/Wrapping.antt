@@ -14,7 +14,7 @@ use borrow.Author.Tests.{lt-ltb, le-ltb, le-leb, ltb-true, ltb-false, leb-true}
 use Rattle.model.specs.declared.Ty.{Ty}
 use Rattle.model.specs.Bytes.{modZ, signedOf, fourAt, valueAt, fourBytes, valueBytes}
 use Rattle.model.specs.Values.{least, greatest, within, pattern, readBack, wrap}
-use Rattle.model.proofs.Tests.{and-left, and-right}
+use Rattle.model.proofs.Tests.{and-left, and-right, cases}
 
 -- ── powers ───────────────────────────────────────────────────────────────────────────────────
 
@@ -48,41 +48,21 @@ half-in b n (suc k) zero l e t = absurd (omega arith)
 half-in true n (suc k) (suc j) l e t = le-leb n (suc k - 1) (omega (arith, ltb-true n (suc k) t))
 half-in false n (suc k) (suc j) l e t = rw (lt-ltb n (suc j) l, le-leb (suc j - suc n) k (omega (arith, ltb-false n (suc k) t)))
 
-half-mod : (b : Bool) (n m : ℕ) → n < m → modZ (half-less b n m) m ≡ n
-unfolding modZ
-half-mod b n zero l = absurd (omega arith)
-half-mod true n (suc j) l = mod-eq-of-lt l
-half-mod false n (suc j) l = rw (lt-ltb n (suc j) l) (rw (mod-eq-of-lt {n = suc j - suc n} {m = suc j} (omega arith)) (omega arith))
-
 half-mag : (b : Bool) (n m : ℕ) → n < m → mag (half-less b n m) < m
 half-mag b n zero l = absurd (omega arith)
 half-mag true n (suc j) l = l
 half-mag false n (suc j) l = rw (lt-ltb n (suc j) l) (omega arith)
 
 -- by the kind: signed or not
-read-in : (b : Bool) (t : Ty) (n : ℕ) → eqb (t .kind) 1 ≡ b → 1 ≤ t .p → n < 2 ^ t .p → within t (readBack t n) ≡ true
-unfolding within readBack signedOf least greatest
-read-in true t n e h l = rw (e) (half-in (ltb n (2 ^ (t .p - 1))) n (2 ^ (t .p - 1)) (2 ^ t .p) l (pow-half (t .p) h) refl)
-read-in false t n e h l = rw (e, le-leb 0 n (omega arith), le-leb n (2 ^ t .p - 1) (omega arith))
-
 pub read-within : (t : Ty) (n : ℕ) → 1 ≤ t .p → n < 2 ^ t .p → within t (readBack t n) ≡ true
-read-within t n h l = read-in (eqb (t .kind) 1) t n refl h l
-
-read-mod : (b : Bool) (t : Ty) (n : ℕ) → eqb (t .kind) 1 ≡ b → n < 2 ^ t .p → pattern t (readBack t n) ≡ n
-unfolding pattern readBack signedOf
-read-mod true t n e l = rw e (half-mod (ltb n (2 ^ (t .p - 1))) n (2 ^ t .p) l)
-read-mod false t n e l = rw e (half-mod true n (2 ^ t .p) l)
-
-pub pattern-read : (t : Ty) (n : ℕ) → n < 2 ^ t .p → pattern t (readBack t n) ≡ n
-pattern-read t n l = read-mod (eqb (t .kind) 1) t n refl l
-
-read-small : (b : Bool) (t : Ty) (n : ℕ) → eqb (t .kind) 1 ≡ b → n < 2 ^ t .p → mag (readBack t n) < 2 ^ t .p
-unfolding readBack signedOf
-read-small true t n e l = rw e (half-mag (ltb n (2 ^ (t .p - 1))) n (2 ^ t .p) l)
-read-small false t n e l = rw e l
+unfolding within readBack signedOf least greatest
+read-within t n h l =
+    cases (eqb (t .kind) 1) (λ e. rw e (half-in (ltb n (2 ^ (t .p - 1))) n (2 ^ (t .p - 1)) (2 ^ t .p) l (pow-half (t .p) h) refl))
+    (λ e. rw (e, le-leb 0 n (omega arith), le-leb n (2 ^ t .p - 1) (omega arith)))
 
 pub read-mag : (t : Ty) (n : ℕ) → n < 2 ^ t .p → mag (readBack t n) < 2 ^ t .p
-read-mag t n l = read-small (eqb (t .kind) 1) t n refl l
+unfolding readBack signedOf
+read-mag t n l = cases (eqb (t .kind) 1) (λ e. rw e (half-mag (ltb n (2 ^ (t .p - 1))) n (2 ^ t .p) l)) (λ e. rw e l)
 
 -- ── wrapping ─────────────────────────────────────────────────────────────────────────────────
 
@@ -93,10 +73,6 @@ wrap-within t z h = read-within t (pattern t z) h (pattern-lt t z)
 pub wrap-mag : (t : Ty) (z : ℤ) → mag (wrap t z) < 2 ^ t .p
 unfolding wrap
 wrap-mag t z = read-mag t (pattern t z) (pattern-lt t z)
-
-pub wrap-wrap : (t : Ty) (z : ℤ) → wrap t (wrap t z) ≡ wrap t z
-unfolding wrap
-wrap-wrap t z = ap (readBack t) (pattern-read t (pattern t z) (pattern-lt t z))
 
 -- a value between -h and h - 1, back from its remainder modulo m
 signed-back : (z : ℤ) (h m : ℕ) → 0 < h → m ≡ 2 * h → between h z ≡ true → half-less (ltb (modZ z m) h) (modZ z m) m ≡ z
@@ -116,13 +92,11 @@ unfolding modZ
 plain-back (pos n) m h w = ap pos (mod-eq-of-lt (omega (arith, leb-true n (m - 1) (and-right (leb 0 n) (leb n (m - 1)) w))))
 plain-back (negsuc n) m h w = absurd (let z : _≡_ {A = ℕ} 0 1 = cc in omega arith)
 
-wrap-by : (b : Bool) (t : Ty) (z : ℤ) → eqb (t .kind) 1 ≡ b → 1 ≤ t .p → within t z ≡ true → wrap t z ≡ z
-unfolding wrap within pattern readBack signedOf least greatest
-wrap-by true t z e h w = rw e (signed-back z (2 ^ (t .p - 1)) (2 ^ t .p) (pow-pos (t .p - 1)) (pow-half (t .p) h) (rw e at w))
-wrap-by false t z e h w = rw e (plain-back z (2 ^ t .p) (pow-pos (t .p)) (rw e at w))
-
 pub wrap-id : (t : Ty) (z : ℤ) → 1 ≤ t .p → within t z ≡ true → wrap t z ≡ z
-wrap-id t z h w = wrap-by (eqb (t .kind) 1) t z refl h w
+unfolding wrap within pattern readBack signedOf least greatest
+wrap-id t z h w =
+    cases (eqb (t .kind) 1) (λ e. rw e (signed-back z (2 ^ (t .p - 1)) (2 ^ t .p) (pow-pos (t .p - 1)) (pow-half (t .p) h) (rw e at w)))
+    (λ e. rw e (plain-back z (2 ^ t .p) (pow-pos (t .p)) (rw e at w)))
 
 pub within-mag : (t : Ty) (z : ℤ) → 1 ≤ t .p → within t z ≡ true → mag z < 2 ^ t .p
 within-mag t z h w = rw (wrap-id t z h w) at (wrap-mag t z)
@@ -131,18 +105,6 @@ pub pow-30 : {p : ℕ} → p ≤ 30 → 2 ^ p ≤ 1073741824
 pow-30 h = pow-mono h
 
 -- ── four bytes ───────────────────────────────────────────────────────────────────────────────
-
--- the type of a four-byte value
-int : Ty
-int = record { kind = 1; p = 32 }
-
-pub signed-32-mag : (n : ℕ) → n < 4294967296 → mag (signedOf 32 n) < 2147483648
-unfolding signedOf
-signed-32-mag n l = go (ltb n 2147483648) refl
-  where
-    go : (b : Bool) → ltb n 2147483648 ≡ b → mag (half-less b n 4294967296) < 2147483648
-    go true e = ltb-true n 2147483648 e
-    go false e = rw (lt-ltb n 4294967296 l) (omega (arith, ltb-false n 2147483648 e))
 
 four-bytes : (n : ℕ) → n < 4294967296 → fourAt (fourBytes n) 0 ≡ n
 unfolding fourAt fourBytes
