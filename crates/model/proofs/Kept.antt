@@ -1,37 +1,39 @@
 -- Every cycle keeps the state well laid out: counts within capacity and room, taken within the file, values within their types.
+-- So the bytes of every state reached from a load are accepted, and give that state back.
 -- Assumes nothing.
-use mathlib.Core.Path.{_≡_, refl, ap, _∙_}
-use mathlib.Core.Bool.{Bool, true, false, not, _&&_, _||_}
+use mathlib.Core.Path.{_≡_, refl, ap, _∙_, sym, ap₂}
+use mathlib.Core.Bool.{Bool, true, false, not, _&&_, _||_, cond}
 use mathlib.Core.Option.{Option, none, some}
-use mathlib.Core.List.{List, [], _∷_, _++_, map}
-use Prim.Native.Nat.{ℕ, zero, suc, _+_, _-_, _^_, _≤_, _<_}
+use mathlib.Core.List.{List, [], _∷_, _++_, map, zipWith, append-assoc}
+use Prim.Native.Nat.{ℕ, zero, suc, _+_, _-_, _^_, _≤_, _<_, _*_, _/_, _%_}
 use native.Mathlib.Omega.{arith}
 use lib.Dec.{eqb, leb, ltb}
-use lib.IntN.{ℤ, pos}
+use lib.IntN.{ℤ, pos, negsuc}
 use lib.Pow.{pow-pos}
-use lib.ListN.{length, getD, drop, length-append, length-map, length-set}
-use lib.Seq.{getD-set-same, getD-set-other}
-use borrow.Author.Tests.{eqb-true, leb-true, ltb-true, lt-ltb, eq-eqb, ne-eqb}
+use lib.ListN.{length, getD, drop, length-append, length-map, length-set, replicate, length-replicate}
+use lib.Seq.{getD-set-same, getD-set-other, take-at, drop-at, drop-drop}
+use borrow.Author.Tests.{eqb-true, leb-true, ltb-true, lt-ltb, eq-eqb, ne-eqb, le-leb}
+use lib.Signed.{mag}
 use Rattle.model.specs.declared.Ty.{Ty}
 use Rattle.model.specs.declared.Token.{Token}
 use Rattle.model.specs.declared.Outcome.{Outcome}
 use Rattle.model.specs.declared.Outcome.the-variants.{Value, Fault}
-use Rattle.model.specs.Bytes.{signedOf}
+use Rattle.model.specs.Bytes.{signedOf, twoAt, twoBytes, fourAt, fourBytes, valueAt, valueBytes}
 use Rattle.model.specs.Values.{noType, isPlain, isDc, wellSized, carried, sameType, within, readBack, eqZ}
 use Rattle.model.specs.Expressions.{Exp, Env, Typed, typed, ill, typeOf, precise, expressionLimits, depthOf, valueOf}
 use Rattle.model.specs.Rules.{Rule, Pattern, ignore, any, only, Action, nothing, bare, send, Shape, Fit, fits, fails, also, fitIf, tagFits, matchedType, matchedTypes, scopeOf, hasType, actionFits, actionsFit, actionLimits, ruleFits, sizeOfAction}
-use Rattle.model.specs.Network.{Variable, Box, Proc, box, input, output, Net, Own, vars, taken, got, State, noToken, nobody, wire, capacity, proc, rule, queue, own, varsOf, takenOf, gotOf, insOf, outsOf, wireTypes, variableTypes, shapeOf, fresh, loaded}
+use Rattle.model.specs.Network.{Variable, Box, Proc, box, input, output, Net, Own, vars, taken, got, State, noToken, nobody, wire, capacity, proc, rule, queue, own, varsOf, takenOf, gotOf, insOf, outsOf, wireTypes, variableTypes, shapeOf, fresh, loaded, noWire}
 use Rattle.model.specs.NetworkFile.{count}
-use Rattle.model.specs.States.{tokenFits, tokensFit}
+use Rattle.model.specs.States.{tokenFits, tokensFit, tokenAt, readTokens, tokenBytes, tokensBytes, roomBytes, wireBytes, valuesBytes, ownBytes, cat, segments, bytesOf, wireSize, ownSize, sum, wiresSize, allZero, roomFits, wireFits, queueIn, valuesIn, valuesFit, ownFits, ownIn, split, allTrue, wireParts, ownParts, stateFits, stateIn}
 use Rattle.model.specs.Cycles.{empty, oldest, full, reads, matches, readyIn, readyIns, readyVars, readyOuts, readyRule, Deed, seen, look, moves, matchedValue, envOf, orZero, result, newVar, newVars, readsOf, sentOf, present, keptOf, deedOf, act, Mark, fires, markOf, mark, deed, fire, fireAll, ruleOf, cycleIn}
-use Rattle.model.specs.Orders.{joined, onWire, Sound, Reached, at-load, cycled}
+use Rattle.model.specs.Orders.{joined, onWire, Sound, Reached, at-load, cycled, Back, RoundTrip}
 use Rattle.model.proofs.Tests.{and-left, and-right, both, and₂, and₃, cases, same-or}
-use Rattle.model.proofs.Wrapping.{read-within}
+use Rattle.model.proofs.Wrapping.{read-within, within-mag, pow-30, value-bytes}
 use Rattle.model.proofs.Typing.{Of, Named, GoodEnv, value-of, same-type}
-use Rattle.model.proofs.Readiness.{nonempty, rule-chosen, flag-fires}
 use Rattle.model.proofs.Order.{OneEach, Due, due-first, due-other, due-next, deed-frame, queue-fire, hit-same}
-use Rattle.model.proofs.Sound.{sound-next, order-due, named-fires, load-sound, load-empty, reached-sound}
+use Rattle.model.proofs.Sound.{nonempty, rule-chosen, flag-fires, sound-next, order-due, named-fires, load-sound, load-empty, reached-sound}
 use Rattle.model.proofs.Decoded.{Each, GoodType, GoodVariable, GoodRule, GoodProc, GoodNet, noVariable, actionTag, getD-map-lt}
+use Rattle.model.proofs.Whole.{tokens-accepted}
 
 -- ── tokens of a type ─────────────────────────────────────────────────────────────────────────
 
@@ -123,12 +125,8 @@ hasType-fits own at t (ill k) e = let z : _≡_ {A = ℕ} 0 1 = cc in absurd (om
 -- the actions of a rule that fits, each list from its own offset
 rule-fit : (sh : Shape) (r : Rule) → ruleFits sh r ≡ fits
     → (i : ℕ) × (actionsFit (scopeOf sh r) i (sh .outs) (r .outs) ≡ fits) × (j : ℕ) × (actionsFit (scopeOf sh r) j (sh .vars) (r .sets) ≡ fits)
-unfolding ruleFits
-rule-fit sh r e =
-    let a = also-fits _ _ e in
-    let b = also-fits _ _ (a .1) in
-    let c = also-fits _ _ (b .1) in
-    let d = also-fits _ _ (c .1) in
+rule-fit sh r e = unfold ruleFits in
+    let d = also-fits _ _ ((also-fits _ _ ((also-fits _ _ ((also-fits _ _ e) .1)) .1)) .1) in
     (_, d .0, _, d .1)
 
 limits-split : (a : Action) (acts : List Action) → actionLimits (a ∷ acts) ≡ true → (actionLimits (a ∷ []) ≡ true) × (actionLimits acts ≡ true)
@@ -140,47 +138,38 @@ limits-split (send t e) acts l = let h = and₂ (expressionLimits e) (actionLimi
 -- ── values that a wire carries ───────────────────────────────────────────────────────────────
 
 pub carried-p : (t : Ty) → (carried t) .p ≡ t .p
-unfolding carried
-carried-p t = cases (isDc t) (λ e. rw e) (λ e. rw e)
+carried-p t = unfold carried in cases (isDc t) (λ e. rw e) (λ e. rw e)
 
 plain-carried : (t : Ty) → isPlain t ≡ true → carried t ≡ t
-unfolding isPlain carried isDc
-plain-carried t e =
+plain-carried t e = unfold isPlain carried isDc in
     let l : t .kind ≤ 2 = leb-true (t .kind) 2 (and-left (leb (t .kind) 2) (wellSized t) e) in
     rw (ne-eqb (t .kind) 3 (λ q. omega (arith, q)), ne-eqb (t .kind) 4 (λ q. omega (arith, q)))
 
-zero-within : (t : Ty) → 1 ≤ t .p → within t (pos 0) ≡ true
-unfolding readBack signedOf
-zero-within t h =
+-- a fault leaves 0
+orZero-within : (t : Ty) (x : Outcome) → 1 ≤ t .p → Of t x → within t (orZero x) ≡ true
+unfolding orZero readBack signedOf
+orZero-within t (Value u z) h p = p .1
+orZero-within t (Fault n) h p =
     let back : readBack t 0 ≡ pos 0 = cases (eqb (t .kind) 1) (λ e. rw (e, lt-ltb 0 (2 ^ (t .p - 1)) (pow-pos (t .p - 1)))) (λ e. rw e) in
     rw back at (read-within t 0 h (pow-pos (t .p)))
-
-orZero-within : (t : Ty) (x : Outcome) → 1 ≤ t .p → Of t x → within t (orZero x) ≡ true
-unfolding orZero
-orZero-within t (Value u z) h p = p .1
-orZero-within t (Fault n) h p = zero-within t h
 
 -- a tag with a value is 0 or 3
 no-mark : (k : ℕ) → (eqb k 0 || eqb k 3) ≡ true → ((eqb k 1 || eqb k 2) ≡ false) × (leb k 3 ≡ true)
 no-mark k e = cases (eqb k 0) (λ h. rw (eqb-true k 0 h) (refl, refl)) (λ h. rw (eqb-true k 3 (rw h at e)) (refl, refl))
 
 token-carries : (t : Ty) (k : Token) → tokenFits t k ≡ true → (eqb (k .tag) 0 || eqb (k .tag) 3) ≡ true → within (carried t) (k .value) ≡ true
-unfolding tokenFits
-token-carries t k p e = let h = and-right (tagFits t (k .tag) && leb (k .tag) 3) _ p in rw ((no-mark (k .tag) e) .0) at h
+token-carries t k p e = unfold tokenFits in let h = and-right (tagFits t (k .tag) && leb (k .tag) 3) _ p in rw ((no-mark (k .tag) e) .0) at h
 
 value-token : (t : Ty) (tag : ℕ) (z : ℤ) → tagFits t tag ≡ true → (eqb tag 0 || eqb tag 3) ≡ true → within (carried t) z ≡ true → tokenFits t (record { tag = tag; value = z }) ≡ true
-unfolding tokenFits
-value-token t tag z p e w = let h = no-mark tag e in rw (p, h .1, h .0) w
+value-token t tag z p e w = unfold tokenFits in let h = no-mark tag e in rw (p, h .1, h .0) w
 
 mark-token : (t : Ty) (tag : ℕ) → tagFits t tag ≡ true → (eqb tag 1 || eqb tag 2) ≡ true → tokenFits t (record { tag = tag; value = pos 0 }) ≡ true
-unfolding tokenFits eqZ
-mark-token t tag p e =
+mark-token t tag p e = unfold tokenFits eqZ in
     let low : leb tag 3 ≡ true = cases (eqb tag 1) (λ h. rw (eqb-true tag 1 h)) (λ h. rw (eqb-true tag 2 (rw h at e))) in
     rw (p, e, low)
 
 no-type : {A : Type 0} → isPlain noType ≡ true → A
-unfolding isPlain noType
-no-type e = let z : _≡_ {A = ℕ} 0 1 = cc in absurd (omega arith)
+no-type e = unfold isPlain noType in let z : _≡_ {A = ℕ} 0 1 = cc in absurd (omega arith)
 
 -- ── what a box's expressions are worked out from ─────────────────────────────────────────────
 
@@ -192,14 +181,10 @@ vars-named (v ∷ vs) z g w zero e = record { low = (g 0 (omega arith)) .ty .low
 vars-named (v ∷ vs) z g w (suc j) e = vars-named vs (λ k. z (suc k)) (λ k m. g (suc k) (omega (arith, m))) (λ k m. w (suc k) (omega (arith, m))) j e
 
 module _ (n : Net) (gn : GoodNet n) (s : State) (gs : GoodState n s) where
-  wire-type : (w : ℕ) → w < length (n .wires) → GoodType ((wire n w) .ty)
-  unfolding wire
-  wire-type w h = (gn .wires w h) .ty
-
   -- the matched value of an input is of its type
   first-matched : (w : ℕ) (p : Pattern) → w < length (n .wires) → readyIn p (queue s w) ≡ true
       → isPlain (matchedType ((wire n w) .ty) p) ≡ true → Named (matchedType ((wire n w) .ty) p) (matchedValue (seen (reads p) (queue s w)))
-  unfolding matchedType reads seen matchedValue readyIn matches
+  unfolding matchedType reads seen matchedValue readyIn matches wire
   first-matched w ignore h r e = no-type e
   first-matched w (only tag z) h r e = no-type e
   first-matched w (any tag) h r e =
@@ -207,7 +192,7 @@ module _ (n : Net) (gn : GoodNet n) (s : State) (gs : GoodState n s) where
       let q = queue s w in
       let m = and₂ (not (empty q)) (eqb tag ((oldest q) .tag)) r in
       cases (eqb tag 0 || eqb tag 3) (λ c. rw c (record {
-        low = omega (arith, carried-p t, (wire-type w h) .low);
+        low = omega (arith, carried-p t, (gn .wires w h) .ty .low);
         fits = token-carries t (oldest q) (oldest-fits t q (gs .fit w h) (nonempty q (m .0))) (rw (eqb-true tag ((oldest q) .tag) (m .1)) at c);
       })) (λ c. no-type (rw c at e))
 
@@ -227,7 +212,8 @@ module _ (n : Net) (gn : GoodNet n) (s : State) (gs : GoodState n s) where
     -- an expression of type t works out to a value of it
     sent-within : (t : Ty) (e : Exp) → 1 ≤ t .p → (expressionLimits e && true) ≡ true → typeOf (en .scope) e ≡ typed t → within t (orZero (valueOf en e)) ≡ true
     unfolding expressionLimits
-    sent-within t e h l q = orZero-within t (valueOf en e) h ((value-of en ge e (and-right (leb (depthOf e) 16) (precise e) (and-left (leb (depthOf e) 16 && precise e) true l)) t q) .1)
+    sent-within t e h l q =
+        orZero-within t (valueOf en e) h ((value-of en ge e (and-right (leb (depthOf e) 16) (precise e) (and-left (leb (depthOf e) 16 && precise e) true l)) t q) .1)
 
     result-fits : (at : ℕ) (t : Ty) (a : Action) → 1 ≤ t .p → actionFits (en .scope) at t a ≡ fits → actionLimits (a ∷ []) ≡ true → actionTag a ≡ true → Sent t (result en a)
     unfolding actionFits actionLimits actionTag result
@@ -246,7 +232,7 @@ module _ (n : Net) (gn : GoodNet n) (s : State) (gs : GoodState n s) where
     results-fit at (v ∷ ws) (x ∷ acts) a f l g w =
         let p = also-fits _ _ f in
         let ls = limits-split x acts l in
-        move-fit n v ws (result en x) (map (result en) acts) w (unfold wire in result-fits at _ x ((wire-type v (a 0 (omega arith))) .low) (p .0) (ls .0) (g 0 (omega arith)))
+        move-fit n v ws (result en x) (map (result en) acts) w (unfold wire in result-fits at _ x ((gn .wires v (a 0 (omega arith))) .ty .low) (p .0) (ls .0) (g 0 (omega arith)))
         (results-fit (at + sizeOfAction x) ws acts (λ k m. a (suc k) (omega (arith, m))) (p .1) (ls .1) (λ k m. g (suc k) (omega (arith, m))) w)
 
     new-length : (old : List ℤ) (acts : List Action) → length (newVars en old acts) ≡ length old
@@ -318,15 +304,13 @@ module _ (n : Net) (gn : GoodNet n) (s : State) (gs : GoodState n s) where
       }
 
   deed-good : (m : ℕ → Mark) (k r : ℕ) → k < length (n .procs) → m k ≡ fires r → mark n s k ≡ fires r → GoodDeed n (proc n k) (deed n m k s)
-  unfolding deed mark ruleOf proc
-  deed-good m k r h q e = rw q (deed-of (proc n k) (own s k) r (gn .procs k h) (gs .kept k h) e)
+  deed-good m k r h q e = unfold deed mark ruleOf proc in rw q (deed-of (proc n k) (own s k) r (gn .procs k h) (gs .kept k h) e)
 
 -- ── a cycle in any order, and all cycles since the load ──────────────────────────────────────
 
 module _ (n : Net) (m : ℕ → Mark) (one : OneEach n) where
   own-fire : (k j : ℕ) (s : State) → GoodState n s → k < length (n .procs) → GoodDeed n (proc n k) (deed n m k s) → j < length (n .procs) → GoodOwn n (proc n j) (own (fire n m k s) j)
-  unfolding own fire act
-  own-fire k j s g h x i =
+  own-fire k j s g h x i = unfold own fire act in
       same-or j k (λ e. rw e (rw (getD-set-same (s .owns) k ((deed n m k s) .keeps) (vars []) (omega (arith, h, g .owns))) (x .keeps)))
       (λ f. rw (getD-set-other (s .owns) k j ((deed n m k s) .keeps) (vars []) f) (g .kept j i))
 
@@ -362,21 +346,155 @@ module _ (n : Net) (gn : GoodNet n) (one : OneEach n) where
   fresh-good (input w ts) g = record { is = refl; most = omega arith }
   fresh-good (output w room) g = record { is = refl; most = omega arith; fit = refl }
 
-  load-good : GoodState n (loaded n)
-  load-good = record {
+  -- every state reached from a load is well laid out
+  pub reached-good : {s : State} {ds : List Deed} → Reached n s ds → GoodState n s
+  unfolding cycleIn
+  reached-good at-load = record {
     queues = (load-sound n) .shape;
     owns = unfold loaded in length-map (n .procs) fresh;
     most = (load-sound n) .fits;
     fit = λ w h. rw (load-empty n w) (unfold tokensFit in refl);
     kept = λ k h. unfold own loaded proc in rw (getD-map-lt fresh (n .procs) k nobody (vars []) h) (fresh-good (getD (n .procs) k nobody) (gn .procs k h));
   }
-
-  -- every state reached from a load is well laid out
-  pub reached-good : {s : State} {ds : List Deed} → Reached n s ds → GoodState n s
-  unfolding cycleIn
-  reached-good at-load = load-good
   reached-good (cycled {s = s} {ds = ds} ks x o) =
       let q = reached-sound n one x in
       let g = reached-good x in
       all-good n (mark n s) one ks s ds (order-due n one s ds ks q o) q g
       (λ k h. (let f = named-fires n s ks o k h in (f .2, deed-good n gn s g (mark n s) k (f .0) (f .2) (f .1) (f .1))))
+
+-- ── values and tokens ────────────────────────────────────────────────────────────────────────
+
+-- four bytes hold what a type of at most 30 bits holds
+pub within-small : (t : Ty) → 1 ≤ t .p → t .p ≤ 30 → (z : ℤ) → within t z ≡ true → mag z < 2147483648
+within-small t l h z w = omega (arith, within-mag t z l w, pow-30 h)
+
+pub token-small : (t : Ty) → GoodType t → (k : Token) → tokenFits t k ≡ true → mag (k .value) < 2147483648
+unfolding tokenFits eqZ
+token-small t g k e = by-tag (eqb (k .tag) 1 || eqb (k .tag) 2) (k .value) (and-right (tagFits t (k .tag) && leb (k .tag) 3) _ e)
+  where
+    by-tag : (b : Bool) (z : ℤ) → cond b (eqZ z (pos 0)) (within (carried t) z) ≡ true → mag z < 2147483648
+    by-tag true (pos n) f = omega (arith, eqb-true n 0 f)
+    by-tag true (negsuc n) f = let z : _≡_ {A = ℕ} 0 1 = cc in absurd (omega arith)
+    by-tag false z f = within-small (carried t) (omega (arith, g .low, carried-p t)) (omega (arith, g .high, carried-p t)) z f
+
+pub token-back : (k : Token) (rest : List ℕ) → mag (k .value) < 2147483648 → tokenAt (tokenBytes k ++ rest) ≡ k
+token-back k rest h = unfold tokenAt tokenBytes valueAt valueBytes fourAt fourBytes in λ i. record { tag = k .tag; value = value-bytes (k .value) h i }
+
+pub length-tokens : (ts : List Token) → length (tokensBytes ts) ≡ 5 * length ts
+unfolding tokensBytes tokenBytes valueBytes fourBytes
+length-tokens [] = refl
+length-tokens (t ∷ ts) = omega (arith, length-tokens ts)
+
+tokens-back : (t : Ty) → GoodType t → (q : List Token) (rest : List ℕ) → tokensFit t q ≡ true → readTokens (length q) (tokensBytes q ++ rest) ≡ q
+unfolding tokensFit readTokens tokensBytes tokenBytes valueBytes fourBytes
+tokens-back t g [] rest e = refl
+tokens-back t g (k ∷ q) rest e =
+    let h = and₂ (tokenFits t k) (tokensFit t q) e in
+    ap₂ (λ (x : Token) (xs : List Token). x ∷ xs) (token-back k (tokensBytes q ++ rest) (token-small t g k (h .0))) (tokens-back t g q rest (h .1))
+
+-- ── a room ───────────────────────────────────────────────────────────────────────────────────
+
+zeros : (k : ℕ) → allZero (replicate k 0) ≡ true
+unfolding allZero
+zeros zero = refl
+zeros (suc k) = zeros k
+
+pub length-room : (room : ℕ) (ts : List Token) → length ts ≤ room → length (roomBytes room ts) ≡ 5 * room
+unfolding roomBytes
+length-room room ts h = length-append (tokensBytes ts) (replicate ((room - length ts) * 5) 0) ∙ omega (arith, length-tokens ts, length-replicate {A = ℕ} ((room - length ts) * 5) 0)
+
+-- its length, the tokens back, and that it fits
+room-laid : (t : Ty) → GoodType t → (room : ℕ) (q : List Token) → tokensFit t q ≡ true → length q ≤ room
+    → (length (roomBytes room q) ≡ 5 * room) × (readTokens (length q) (roomBytes room q) ≡ q) × (roomFits t room (length q) (roomBytes room q) ≡ true)
+room-laid t g room q e l = unfold roomFits roomBytes in
+    let z : List ℕ = replicate ((room - length q) * 5) 0 in
+    let back = tokens-back t g q z e in
+    (length-room room q l, back, rw (back, le-leb (length q) room l, e, drop-at (tokensBytes q) z (5 * length q) (length-tokens q)) (zeros ((room - length q) * 5)))
+
+-- ── variables ────────────────────────────────────────────────────────────────────────────────
+
+pub length-values : (zs : List ℤ) → length (valuesBytes zs) ≡ 4 * length zs
+unfolding valuesBytes valueBytes fourBytes
+length-values [] = refl
+length-values (z ∷ zs) = omega (arith, length-values zs)
+
+values-back : (vs : List Variable) (zs : List ℤ) → Each GoodVariable noVariable vs → length zs ≡ length vs
+    → ((j : ℕ) → j < length vs → within ((getD vs j noVariable) .ty) (getD zs j (pos 0)) ≡ true) → (valuesIn vs (valuesBytes zs) ≡ zs) × (valuesFit vs (valuesBytes zs) ≡ true)
+unfolding valuesIn valuesFit valuesBytes
+values-back [] [] g l w = (refl, refl)
+values-back [] (z ∷ zs) g l w = absurd (omega arith)
+values-back (v ∷ vs) [] g l w = absurd (omega arith)
+values-back (v ∷ vs) (z ∷ zs) g l w =
+    let t = (g 0 (omega arith)) .ty in
+    let h = w 0 (omega arith) in
+    let ih = values-back vs zs (λ k m. g (suc k) (omega (arith, m))) (omega arith) (λ k m. w (suc k) (omega (arith, m))) in
+    let e : valueAt (valueBytes z ++ valuesBytes zs) 0 ≡ z = unfold valueAt valueBytes fourAt fourBytes in value-bytes z (within-small (v .ty) (t .low) (t .high) z h) in
+    let d : drop 4 (valueBytes z ++ valuesBytes zs) ≡ valuesBytes zs = unfold valueBytes fourBytes in refl in
+    rw (e, d, h) (ap (λ (l : List ℤ). z ∷ l) (ih .0), ih .1)
+
+-- ── parts one after another ──────────────────────────────────────────────────────────────────
+
+pub cat-append : (a b : List (List ℕ)) → cat (a ++ b) ≡ cat a ++ cat b
+unfolding cat
+cat-append [] b = refl
+cat-append (x ∷ a) b = ap (λ (l : List ℕ). x ++ l) (cat-append a b) ∙ sym (append-assoc x (cat a) (cat b))
+
+module _ {A B : Type 0} (bytes : A → B → List ℕ) (held : A → List ℕ → B) (size : A → ℕ) (fit : A → List ℕ → Bool) where
+  -- one part: its length, what it holds, that it fits
+  abbrev Part : A → B → Type 0
+  Part x y = (length (bytes x y) ≡ size x) × (held x (bytes x y) ≡ y) × (fit x (bytes x y) ≡ true)
+
+  -- all parts, with other bytes behind them: what is behind, what they hold, that they fit
+  parts : (d : A) (e : B) (xs : List A) (ys : List B) → length ys ≡ length xs → ((k : ℕ) → k < length xs → Part (getD xs k d) (getD ys k e)) → (rest : List ℕ)
+      → let s = cat (zipWith bytes xs ys) ++ rest in
+      (drop (sum (map size xs)) s ≡ rest) × (zipWith held xs (split (map size xs) s) ≡ ys) × (allTrue (zipWith fit xs (split (map size xs) s)) ≡ true)
+  unfolding cat sum split zipWith allTrue
+  parts d e [] [] l p rest = (refl, refl, refl)
+  parts d e [] (y ∷ ys) l p rest = absurd (omega arith)
+  parts d e (x ∷ xs) [] l p rest = absurd (omega arith)
+  parts d e (x ∷ xs) (y ∷ ys) l p rest =
+      let h = p 0 (omega arith) in
+      let more : List ℕ = cat (zipWith bytes xs ys) ++ rest in
+      let ih = parts d e xs ys (omega arith) (λ k m. p (suc k) (omega (arith, m))) rest in
+      let t = take-at (bytes x y) more (size x) (h .0) in
+      let r = drop-at (bytes x y) more (size x) (h .0) in
+      rw (append-assoc (bytes x y) (cat (zipWith bytes xs ys)) rest)
+      (sym (drop-drop (sum (map size xs)) (size x) (bytes x y ++ more)) ∙ rw r (ih .0), rw (t, r) (ap₂ (λ (z : B) (zs : List B). z ∷ zs) (h .1) (ih .1)), rw (t, r, h .2) (ih .2))
+
+-- ── a state ──────────────────────────────────────────────────────────────────────────────────
+
+module _ (n : Net) (gn : GoodNet n) (s : State) (gs : GoodState n s) where
+  wire-part : (w : ℕ) → w < length (n .wires) → Part wireBytes queueIn wireSize wireFits (getD (n .wires) w noWire) (getD (s .queues) w [])
+  wire-part w h = unfold wireBytes queueIn wireSize wireFits wire queue capacity in
+      let r = room-laid ((wire n w) .ty) ((gn .wires w h) .ty) (capacity n w) (queue s w) (gs .fit w h) (gs .most w) in
+      (omega (arith, r .0), r .1, r .2)
+
+  own-part : (p : Proc) (o : Own) → GoodProc n p → GoodOwn n p o → Part ownBytes ownIn ownSize (ownFits n true) p o
+  unfolding ownBytes ownIn ownSize ownFits twoAt twoBytes wire
+  own-part (box b) o gp g =
+      let v = values-back (b .vars) (varsOf o) (gp .vars) (g .number) (g .each) in
+      (omega (arith, length-values (varsOf o), g .number), ap vars (v .0) ∙ sym (g .is), v .1)
+  own-part (input w ts) o gp g =
+      let e : takenOf o / 256 * 256 + takenOf o % 256 ≡ takenOf o = omega arith in
+      (refl, ap taken e ∙ sym (g .is), rw e (le-leb (takenOf o) (length ts) (g .most)))
+  own-part (output w room) o gp g =
+      let q = gotOf o in
+      let r = room-laid ((wire n w) .ty) ((gn .wires w (gp .0)) .ty) room q (g .fit) (g .most) in
+      let e : length q / 256 * 256 + length q % 256 ≡ length q = omega arith in
+      (omega (arith, r .0), rw e (ap got (r .1) ∙ sym (g .is)), rw e (r .2))
+
+  -- its bytes give it back, and are accepted
+  pub good-whole : (rest : List ℕ) → Back n s rest
+  good-whole rest = unfold bytesOf segments stateIn stateFits wireParts ownParts wiresSize proc own in
+      let ws = zipWith wireBytes (n .wires) (s .queues) in
+      let os = zipWith ownBytes (n .procs) (s .owns) in
+      let a = parts wireBytes queueIn wireSize wireFits noWire [] (n .wires) (s .queues) (gs .queues) wire-part (cat os ++ rest) in
+      let b = parts ownBytes ownIn ownSize (ownFits n true) nobody (vars []) (n .procs) (s .owns) (gs .owns)
+      (λ k h. own-part (proc n k) (own s k) (gn .procs k h) (gs .kept k h)) rest in
+      let e : cat (ws ++ os) ++ rest ≡ cat ws ++ (cat os ++ rest) = rw cat-append (append-assoc (cat ws) (cat os) rest) in
+      record { state = rw (e, a .0) (λ i. record { queues = (a .1) i; owns = (b .1) i }); accepted = rw (e, a .0, a .2) (b .2) }
+
+-- so it is with every state reached
+pub round-trip : RoundTrip
+unfolding RoundTrip
+round-trip net tokens n e s ds rest x = let a = tokens-accepted net tokens n e in good-whole n (a .all) s (reached-good n (a .all) (a .one) x) rest

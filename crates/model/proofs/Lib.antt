@@ -4,9 +4,7 @@ pub mod Tests
 pub mod Wrapping
 pub mod Typing
 pub mod Order
-pub mod Readiness
 pub mod Sound
-pub mod OrderCheck
 pub mod Accepted
 pub mod Decoded
 pub mod Lookup
@@ -14,4 +12,3 @@ pub mod Whole
 pub mod Sizes
 pub mod AnyOrder
 pub mod Kept
-pub mod Saved

@@ -8,27 +8,24 @@ use mathlib.Core.List.{List, [], _∷_, _++_, append-nil, append-assoc}
 use Prim.Native.Nat.{ℕ, zero, suc, _+_, _≤_, _<_}
 use native.Mathlib.Omega.{arith}
 use native.Mathlib.Nat.{add-comm}
-use native.Mathlib.Decide.{decLt}
-use lib.Dec.{eqb}
-use lib.ListN.{length, getD, set, drop, length-set, length-append, length-drop, List·getD-eq-default}
-use lib.Seq.{drop-nil, drop-drop, drop-append-le, getD-set-same, getD-set-other, lt-length-set, set-comm, ext-getD}
-use borrow.Author.Tests.{eq-eqb, ne-eqb}
+use lib.Dec.{eqb, ltb}
+use lib.ListN.{length, getD, set, drop, length-set, length-append, length-drop, List·getD-eq-default, drop-of-length-le}
+use lib.Seq.{drop-drop, drop-append-le, getD-set-same, getD-set-other, lt-length-set, set-comm, ext-getD}
+use borrow.Author.Tests.{eq-eqb, ne-eqb, ltb-true, ltb-false}
 use Rattle.model.specs.declared.Token.{Token}
 use Rattle.model.specs.Network.{Proc, Net, Wire, State, Own, vars, queue, own, proc, nobody, wire, noWire, capacity, insOf, outsOf}
 use Rattle.model.specs.NetworkFile.{hit, count, ports}
 use Rattle.model.specs.Cycles.{Move, Deed, Mark, takeAll, putAll, act, moves, look, seen, oldest, deed, deedOf, ruleOf, fire, fireAll, readsOf}
 use Rattle.model.specs.Orders.{joined, onWire}
-use Rattle.model.proofs.Tests.{same-or}
+use Rattle.model.proofs.Tests.{cases, same-or}
 
 -- ── counts ───────────────────────────────────────────────────────────────────────────────────
 
 pub hit-same : (v w : ℕ) → v ≡ w → hit (eqb v w) ≡ 1
-unfolding hit
-hit-same v w e = ap hit (eq-eqb v w e)
+hit-same v w e = unfold hit in ap hit (eq-eqb v w e)
 
 pub hit-other : (v w : ℕ) → v ≢ w → hit (eqb v w) ≡ 0
-unfolding hit
-hit-other v w e = ap hit (ne-eqb v w e)
+hit-other v w e = unfold hit in ap hit (ne-eqb v w e)
 
 pub length-joined : (b : Bool) (t : Token) (ts : List Token) → length (joined b t ts) ≡ hit b + length ts
 unfolding joined hit
@@ -65,10 +62,6 @@ module _ (f : Proc → List ℕ) (w : ℕ) (none′ : count w (f nobody) ≡ 0) 
 
 -- ── one wire after a deed ────────────────────────────────────────────────────────────────────
 
-drop-one : (c : ℕ) (q : List Token) → drop c (drop 1 q) ≡ drop (suc c) q
-drop-one c [] = drop-nil c
-drop-one c (x ∷ xs) = refl
-
 length-takeAll : (ms : List Move) (qs : List (List Token)) → length (takeAll ms qs) ≡ length qs
 unfolding takeAll
 length-takeAll [] qs = refl
@@ -84,8 +77,9 @@ unfolding takeAll onWire joined
 takeAll-at [] qs w h = refl
 takeAll-at (m ∷ ms) qs w h =
     let x = drop 1 (getD qs (m .wire) []) in
+    let e : 1 + length (onWire w ms) ≡ suc (length (onWire w ms)) = omega arith in
     takeAll-at ms (set qs (m .wire) x) w (lt-length-set qs (m .wire) x h)
-    ∙ same-or (m .wire) w (λ e. rw (e, eq-eqb w w refl, getD-set-same qs w (drop 1 (getD qs w [])) [] h) (drop-one (length (onWire w ms)) (getD qs w [])))
+    ∙ same-or (m .wire) w (λ q. rw (q, eq-eqb w w refl, getD-set-same qs w (drop 1 (getD qs w [])) [] h) (rw e at (drop-drop (length (onWire w ms)) 1 (getD qs w []))))
     (λ f. rw (ne-eqb (m .wire) w f, getD-set-other qs (m .wire) w x [] (λ p. f (sym p))))
 
 putAll-at : (ms : List Move) (qs : List (List Token)) (w : ℕ) → w < length qs → getD (putAll ms qs) w [] ≡ getD qs w [] ++ onWire w ms
@@ -99,18 +93,15 @@ putAll-at (m ∷ ms) qs w h =
 
 pub queue-act : (k : ℕ) (d : Deed) (s : State) (w : ℕ) → w < length (s .queues)
     → queue (act k d s) w ≡ drop (length (onWire w (d .took))) (queue s w) ++ onWire w (d .put)
-unfolding queue act
-queue-act k d s w h =
+queue-act k d s w h = unfold queue act in
     putAll-at (d .put) (takeAll (d .took) (s .queues)) w (rw length-takeAll h)
     ∙ ap (λ (q : List Token). q ++ onWire w (d .put)) (takeAll-at (d .took) (s .queues) w h)
 
 pub length-act : (k : ℕ) (d : Deed) (s : State) → length ((act k d s) .queues) ≡ length (s .queues)
-unfolding act
-length-act k d s = length-putAll (d .put) (takeAll (d .took) (s .queues)) ∙ length-takeAll (d .took) (s .queues)
+length-act k d s = unfold act in length-putAll (d .put) (takeAll (d .took) (s .queues)) ∙ length-takeAll (d .took) (s .queues)
 
 queue-past : (s : State) (w : ℕ) → length (s .queues) ≤ w → queue s w ≡ []
-unfolding queue
-queue-past s w h = List·getD-eq-default (s .queues) [] h
+queue-past s w h = unfold queue in List·getD-eq-default (s .queues) [] h
 
 -- ── what a process sees is untouched by what is put behind it ───────────────────────────────
 
@@ -142,30 +133,23 @@ drop-both a b q x h = drop-append-le b (drop a q) x (simp length-drop (omega ari
 
 wire-commute : (a b : ℕ) (q x y : List Token) → a + b ≤ length q → length x + length y ≤ 1 → drop b (drop a q ++ x) ++ y ≡ drop a (drop b q ++ y) ++ x
 wire-commute a b q x y h g =
-    ap (λ (l : List Token). l ++ y) (drop-both a b q x h)
-    ∙ append-assoc (drop (a + b) q) x y
-    ∙ ap₂ (λ (c : ℕ) (l : List Token). drop c q ++ l) (add-comm a b) (swap-short x y g)
-    ∙ sym (append-assoc (drop (b + a) q) y x)
-    ∙ sym (ap (λ (l : List Token). l ++ x) (drop-both b a q y (omega arith)))
+    rw (drop-both a b q x h, drop-both b a q y (omega arith), add-comm a b, append-assoc (drop (b + a) q) x y, append-assoc (drop (b + a) q) y x, swap-short x y g)
 
 module _ (j k : ℕ) (d e : Deed) (s : State) (ne : j ≢ k)
     (hs : (w : ℕ) → length (onWire w (d .took)) + length (onWire w (e .took)) ≤ length (queue s w))
     (ps : (w : ℕ) → length (onWire w (d .put)) + length (onWire w (e .put)) ≤ 1) where
   commute-at : (w : ℕ) → w < length (s .queues) → queue (act j d (act k e s)) w ≡ queue (act k e (act j d s)) w
   commute-at w h =
-      queue-act j d (act k e s) w (rw length-act h)
-      ∙ ap (λ (q : List Token). drop (length (onWire w (d .took))) q ++ onWire w (d .put)) (queue-act k e s w h)
-      ∙ wire-commute (length (onWire w (e .took))) (length (onWire w (d .took))) (queue s w) (onWire w (e .put)) (onWire w (d .put)) (omega (arith, hs w)) (omega (arith, ps w))
-      ∙ sym (ap (λ (q : List Token). drop (length (onWire w (e .took))) q ++ onWire w (e .put)) (queue-act j d s w h))
-      ∙ sym (queue-act k e (act j d s) w (rw length-act h))
+      let hk : w < length ((act k e s) .queues) = rw length-act h in
+      let hj : w < length ((act j d s) .queues) = rw length-act h in
+      rw (queue-act j d (act k e s) w hk, queue-act k e (act j d s) w hj, queue-act k e s w h, queue-act j d s w h)
+      (wire-commute (length (onWire w (e .took))) (length (onWire w (d .took))) (queue s w) (onWire w (e .put)) (onWire w (d .put)) (omega (arith, hs w)) (omega (arith, ps w)))
 
   commute-queues : (act j d (act k e s)) .queues ≡ (act k e (act j d s)) .queues
-  unfolding queue
-  commute-queues = ext-getD [] _ _ (simp length-act) (λ w h. commute-at w (simp length-act at h))
+  commute-queues = unfold queue in ext-getD [] _ _ (simp length-act) (λ w h. commute-at w (simp length-act at h))
 
   commute-owns : (act j d (act k e s)) .owns ≡ (act k e (act j d s)) .owns
-  unfolding act
-  commute-owns = set-comm (s .owns) k j (e .keeps) (d .keeps) (λ p. ne (sym p))
+  commute-owns = unfold act in set-comm (s .owns) k j (e .keeps) (d .keeps) (λ p. ne (sym p))
 
   act-commute : act j d (act k e s) ≡ act k e (act j d s)
   act-commute = λ i. record { queues = commute-queues i; owns = commute-owns i }
@@ -183,23 +167,16 @@ pub record Ready (n : Net) (m : ℕ → Mark) (k : ℕ) (s : State) : Type 0 whe
   pub has : (w : ℕ) → length (onWire w ((deed n m k s) .took)) ≤ length (queue s w)
   pub room : (w : ℕ) → length (queue s w) + length (onWire w ((deed n m k s) .put)) ≤ capacity n w
 
-empty-list : (l : List Token) → length l ≤ 0 → l ≡ []
-empty-list [] h = refl
-empty-list (t ∷ l) h = absurd (omega arith)
-
 no-capacity : (n : Net) (w : ℕ) → length (n .wires) ≤ w → capacity n w ≡ 0
-unfolding capacity wire noWire
-no-capacity n w h = ap (λ (x : Wire). x .capacity) (List·getD-eq-default (n .wires) noWire h)
+no-capacity n w h = unfold capacity wire noWire in ap (λ (x : Wire). x .capacity) (List·getD-eq-default (n .wires) noWire h)
 
 module _ (n : Net) (m : ℕ → Mark) (one : OneEach n) where
   -- what a firing takes and puts on a wire is not more than its ports there
   took-count : (k : ℕ) (s : State) (w : ℕ) → length (onWire w ((deed n m k s) .took)) ≤ count w (insOf (getD (n .procs) k nobody))
-  unfolding deed deedOf proc
-  took-count k s w = moves-count (insOf (proc n k)) _ w
+  took-count k s w = unfold deed deedOf proc in moves-count (insOf (proc n k)) _ w
 
   put-count : (k : ℕ) (s : State) (w : ℕ) → length (onWire w ((deed n m k s) .put)) ≤ count w (outsOf (getD (n .procs) k nobody))
-  unfolding deed deedOf proc
-  put-count k s w = moves-count (outsOf (proc n k)) _ w
+  put-count k s w = unfold deed deedOf proc in moves-count (outsOf (proc n k)) _ w
 
   pub took-one : (k : ℕ) (s : State) (w : ℕ) → length (onWire w ((deed n m k s) .took)) ≤ 1
   took-one k s w = omega (arith, one .readers w, port-one insOf w (unfold insOf nobody count in refl) (n .procs) k, took-count k s w)
@@ -214,17 +191,16 @@ module _ (n : Net) (m : ℕ → Mark) (one : OneEach n) where
   put-two j k s w ne = omega (arith, one .writers w, port-two outsOf w (unfold outsOf nobody count in refl) (n .procs) j k ne, put-count j s w, put-count k s w)
 
   -- a wire's queue after a firing, declared or not
-  pub queue-fire : (k : ℕ) (s : State) → Ready n m k s → (w : ℕ) → queue (fire n m k s) w ≡ drop (length (onWire w ((deed n m k s) .took))) (queue s w) ++ onWire w ((deed n m k s) .put)
-  unfolding fire
-  queue-fire k s r w = go (decLt w (length (s .queues)))
-    where
-      go : Dec (w < length (s .queues)) → queue (act k (deed n m k s) s) w ≡ drop (length (onWire w ((deed n m k s) .took))) (queue s w) ++ onWire w ((deed n m k s) .put)
-      go (yes h) = queue-act k (deed n m k s) s w h
-      go (no f) =
-          let past = queue-past s w (omega (arith, f)) in
-          let t : length (onWire w ((deed n m k s) .took)) ≡ 0 = omega (arith, r .has w, ap length past) in
-          let p = empty-list (onWire w ((deed n m k s) .put)) (omega (arith, r .room w, no-capacity n w (omega (arith, f, r .shape)))) in
-          queue-past (act k (deed n m k s) s) w (rw length-act (omega (arith, f))) ∙ sym (rw (t, p, past))
+  pub queue-fire : (k : ℕ) (s : State) → Ready n m k s → (w : ℕ)
+      → queue (fire n m k s) w ≡ drop (length (onWire w ((deed n m k s) .took))) (queue s w) ++ onWire w ((deed n m k s) .put)
+  queue-fire k s r w = unfold fire in
+      let d = deed n m k s in
+      cases (ltb w (length (s .queues))) (λ e. queue-act k d s w (ltb-true w (length (s .queues)) e)) (λ e.
+      let f = ltb-false w (length (s .queues)) e in
+      let past = queue-past s w f in
+      let t : length (onWire w (d .took)) ≡ 0 = omega (arith, r .has w, ap length past) in
+      let p : onWire w (d .put) ≡ [] = drop-of-length-le (onWire w (d .put)) {i = 0} (omega (arith, r .room w, no-capacity n w (omega (arith, f, r .shape)))) in
+      queue-past (act k d s) w (rw length-act f) ∙ sym (rw (t, p, past)))
 
   pub length-fire : (k : ℕ) (s : State) → Ready n m k s → (w : ℕ)
       → length (queue (fire n m k s) w) + length (onWire w ((deed n m k s) .took)) ≡ length (queue s w) + length (onWire w ((deed n m k s) .put))
@@ -238,8 +214,7 @@ module _ (n : Net) (m : ℕ → Mark) (one : OneEach n) where
       ap oldest (queue-fire k s q w) ∙ rw z (oldest-append (queue s w) (onWire w ((deed n m k s) .put)) (omega (arith, r .has w)))
 
   pub deed-frame : (j k : ℕ) (s : State) → j ≢ k → Ready n m j s → Ready n m k s → deed n m j (fire n m k s) ≡ deed n m j s
-  unfolding deed deedOf
-  deed-frame j k s ne r q =
+  deed-frame j k s ne r q = unfold deed deedOf in
       ap₂ (λ (x : List (Option Token)) (o : Own). deedOf n (proc n j) (ruleOf (m j)) x o)
       (look-frame s (fire n m k s) (insOf (proc n j)) (readsOf (proc n j) (ruleOf (m j))) (λ w h. oldest-frame j k s ne r q w h))
       (unfold own fire act in getD-set-other (s .owns) k j _ (vars []) ne)
@@ -252,8 +227,7 @@ module _ (n : Net) (m : ℕ → Mark) (one : OneEach n) where
   }
 
   fire-commute : (j k : ℕ) (s : State) → j ≢ k → Ready n m j s → Ready n m k s → fire n m j (fire n m k s) ≡ fire n m k (fire n m j s)
-  unfolding fire
-  fire-commute j k s ne r q =
+  fire-commute j k s ne r q = unfold fire in
       ap (λ (d : Deed). act j d (fire n m k s)) (deed-frame j k s ne r q)
       ∙ act-commute j k (deed n m j s) (deed n m k s) s ne (λ w. omega (arith, r .has w, q .has w, took-two j k s w ne)) (λ w. put-two j k s w ne)
       ∙ sym (ap (λ (d : Deed). act k d (fire n m j s)) (deed-frame k j s (λ p. ne (sym p)) q r))
@@ -266,12 +240,10 @@ remove k [] = []
 remove k (j ∷ js) = cond (eqb j k) js (j ∷ remove k js)
 
 pub remove-here : (j k : ℕ) (js : List ℕ) → j ≡ k → remove k (j ∷ js) ≡ js
-unfolding remove
-remove-here j k js e = rw (eq-eqb j k e)
+remove-here j k js e = unfold remove in rw (eq-eqb j k e)
 
 pub remove-past : (j k : ℕ) (js : List ℕ) → j ≢ k → remove k (j ∷ js) ≡ j ∷ remove k js
-unfolding remove
-remove-past j k js f = rw (ne-eqb j k f)
+remove-past j k js f = unfold remove in rw (ne-eqb j k f)
 
 pub count-remove : (k : ℕ) (ks : List ℕ) → 1 ≤ count k ks → (i : ℕ) → count i ks ≡ hit (eqb k i) + count i (remove k ks)
 unfolding count
@@ -288,16 +260,13 @@ module _ (n : Net) (m : ℕ → Mark) (one : OneEach n) where
 
   -- the first is ready, none of the others is the first, and they are due after it
   pub due-first : (k : ℕ) (ks : List ℕ) (s : State) → Due (k ∷ ks) s → Ready n m k s
-  unfolding count
-  due-first k ks s d = d .ready k (omega (arith, hit-same k k refl))
+  due-first k ks s d = unfold count in d .ready k (omega (arith, hit-same k k refl))
 
   pub due-other : (k : ℕ) (ks : List ℕ) (s : State) → Due (k ∷ ks) s → (j : ℕ) → 1 ≤ count j ks → (j ≢ k) × Ready n m j s
-  unfolding count
-  due-other k ks s d j h = (λ e. absurd (omega (arith, h, d .once j, hit-same k j (sym e))), d .ready j (omega (arith, h)))
+  due-other k ks s d j h = unfold count in (λ e. absurd (omega (arith, h, d .once j, hit-same k j (sym e))), d .ready j (omega (arith, h)))
 
   pub due-next : (k : ℕ) (ks : List ℕ) (s : State) → Due (k ∷ ks) s → Due ks (fire n m k s)
-  unfolding count
-  due-next k ks s d = record {
+  due-next k ks s d = unfold count in record {
     once = λ j. omega (arith, d .once j);
     ready = λ j h. (let o = due-other k ks s d j h in ready-frame n m one j k s (o .0) (o .1) (due-first k ks s d));
   }

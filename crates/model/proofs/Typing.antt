@@ -49,8 +49,7 @@ complement : (n m : ℕ) → 0 < m → m - 1 - n < m
 complement n m h = omega arith
 
 arithmetic-of : (o : ℕ) (t : Ty) (a b : ℤ) → 1 ≤ t .p → Of t (arithmetic o t a b)
-unfolding arithmetic
-arithmetic-of o t a b h =
+arithmetic-of o t a b h = unfold arithmetic in
     cond-keeps (Of t) (eqb o 10) _ _ (refl, wrap-within t _ h)
     (cond-keeps (Of t) (eqb o 11) _ _ (refl, wrap-within t _ h)
     (cond-keeps (Of t) (eqb o 12) _ _ (refl, wrap-within t _ h)
@@ -58,8 +57,7 @@ arithmetic-of o t a b h =
     (cond-keeps (Of t) (eqb o 13) _ _ (refl, wrap-within t _ h) (refl, wrap-within t _ h)))))
 
 bitwise-within : (o : ℕ) (t : Ty) (a b : ℤ) → 1 ≤ t .p → within t (bitwise o t a b) ≡ true
-unfolding bitwise
-bitwise-within o t a b h =
+bitwise-within o t a b h = unfold bitwise in
     let x = pattern-lt t a in
     let y = pattern-lt t b in
     let keeps = cond-keeps (λ (z : ℤ). within t z ≡ true) in
@@ -67,16 +65,6 @@ bitwise-within o t a b h =
     (keeps (eqb o 16) _ _ (read-within t _ h (or-lt (t .p) _ _ x y))
     (keeps (eqb o 17) _ _ (read-within t _ h (complement _ (2 ^ t .p) (pow-pos (t .p))))
     (keeps (eqb o 18) _ _ (wrap-within t _ h) (read-within t _ h (omega (arith, x, div-le-self (pattern t a) (2 ^ modZ b 32)))))))
-
--- the two-operand operators: up to 19 the left side's type, then bool
-apply-low : (o : ℕ) (t : Ty) (a b : ℤ) → 1 ≤ t .p → leb o 19 ≡ true → Of t (apply o t a b)
-unfolding apply
-apply-low o t a b h e = cond-keeps (Of t) (leb o 14) _ _ (arithmetic-of o t a b h) (rw e (refl, bitwise-within o t a b h))
-
-apply-high : (o : ℕ) (t : Ty) (a b : ℤ) → leb o 19 ≡ false → Of bool (apply o t a b)
-unfolding apply
-apply-high o t a b f =
-    rw (lt-leb o 14 (omega (arith, leb-false o 19 f)), f) (cond-keeps (Of bool) (leb o 25) _ _ (refl, truth-within (compare o a b)) (refl, truth-within (logic o a b)))
 
 -- ── what a type's tests say ──────────────────────────────────────────────────────────────────
 
@@ -92,34 +80,25 @@ unfolding operandAt
 operand-typed at (typed t) f u e k = k t refl e
 operand-typed at (ill m) f u e k = let z : _≡_ {A = ℕ} 0 1 = cc in absurd (omega arith)
 
-cond-typed : {A : Type 0} (b : Bool) (x y : Typed) (u : Ty) → cond b x y ≡ typed u → (b ≡ true → x ≡ typed u → A) → (b ≡ false → y ≡ typed u → A) → A
-cond-typed true x y u e f g = f refl e
-cond-typed false x y u e f g = g refl e
-
 pub same-type : (t u : Ty) → sameType t u ≡ true → t ≡ u
-unfolding sameType
-same-type t u e =
+same-type t u e = unfold sameType in
     let h = and₂ (eqb (t .kind) (u .kind)) (eqb (t .p) (u .p)) e in
     λ i. record { kind = (eqb-true (t .kind) (u .kind) (h .0)) i; p = (eqb-true (t .p) (u .p) (h .1)) i }
 
 fine-bool : Fine bool
-unfolding isPlain wellSized isBool bool
-fine-bool = record { plain = refl; low = omega arith }
+fine-bool = unfold isPlain wellSized isBool bool in record { plain = refl; low = omega arith }
 
 -- a fine bool is bool
 is-bool : (t : Ty) → Fine t → isBool t ≡ true → t ≡ bool
-unfolding isBool isPlain wellSized bool
-is-bool t f e =
+is-bool t f e = unfold isBool isPlain wellSized bool in
     let w = and-right (leb (t .kind) 2) (not (eqb (t .kind) 0) || eqb (t .p) 1) (f .plain) in
     λ i. record { kind = (eqb-true (t .kind) 0 e) i; p = (eqb-true (t .p) 1 (rw e at w)) i }
 
 is-number : (t : Ty) → isNumber t ≡ true → isPlain t ≡ true
-unfolding isNumber isPlain wellSized isBool
-is-number t e = cases (eqb (t .kind) 1) (λ h. rw (eqb-true (t .kind) 1 h)) (λ h. rw (eqb-true (t .kind) 2 (rw h at e)))
+is-number t e = unfold isNumber isPlain wellSized isBool in cases (eqb (t .kind) 1) (λ h. rw (eqb-true (t .kind) 1 h)) (λ h. rw (eqb-true (t .kind) 2 (rw h at e)))
 
 in-low : (t : Ty) → inPrecision t ≡ true → 1 ≤ t .p
-unfolding inPrecision
-in-low t e = leb-true 1 (t .p) (and-left (leb 1 (t .p)) (leb (t .p) 30) e)
+in-low t e = unfold inPrecision in leb-true 1 (t .p) (and-left (leb 1 (t .p)) (leb (t .p) 30) e)
 
 -- ── the value of an expression ───────────────────────────────────────────────────────────────
 
@@ -142,27 +121,30 @@ then-good t v (Fault n) f p g = ((g (pos 0)) .0, tt)
 
 -- not and lnot
 one-good : (o : ℕ) (t v : Ty) (a : ℤ) → Fine t → oneType o t ≡ typed v → Good v (applyOne o t a)
-unfolding applyOne oneType
-one-good o t v a f e =
+one-good o t v a f e = unfold applyOne oneType in
     judged-good (cond (eqb o 4) (isBool t) (isNumber t)) t v (applyOne o t a) e (λ h. (
       f,
       cases (eqb o 4) (λ c. rw c (let q = is-bool t f (rw c at h) in (sym q, rw q (truth-within (not (isTrue a))))))
           (λ c. rw c (refl, read-within t _ (f .low) (complement _ (2 ^ t .p) (pow-pos (t .p))))),
     ))
 
+-- the two-operand operators: up to 19 the left side's type, then bool
 two-good : (o : ℕ) (t u v : Ty) (a b : ℤ) → Fine t → twoType o t u ≡ typed v → Good v (apply o t a b)
-unfolding twoType
+unfolding twoType apply
 two-good o t u v a b f e =
-    cond-typed (leb o 17) _ _ v e (λ c x. left (le-leb o 19 (omega (arith, leb-true o 17 c))) _ x)
-    (λ c x. cond-typed (leb o 19) _ _ v x (λ d y. left d _ y)
-    (λ d y. cond-typed (leb o 21) _ _ v y (λ g z. right d _ z)
-    (λ g z. cond-typed (leb o 25) _ _ v z (λ h w. right d _ w) (λ h w. right d _ w))))
+    cases (leb o 17) (λ c. left (le-leb o 19 (omega (arith, leb-true o 17 c))) _ (rw c at e))
+    (λ c. cases (leb o 19) (λ d. left d _ (rw (c, d) at e))
+    (λ d. cases (leb o 21) (λ g. right d _ (rw (c, d, g) at e))
+    (λ g. cases (leb o 25) (λ h. right d _ (rw (c, d, g, h) at e)) (λ h. right d _ (rw (c, d, g, h) at e)))))
   where
     left : leb o 19 ≡ true → (c : Bool) → judged c t ≡ typed v → Good v (apply o t a b)
-    left d c q = judged-good c t v (apply o t a b) q (λ h. (f, apply-low o t a b (f .low) d))
+    left d c q = judged-good c t v (apply o t a b) q (λ h. (f, cond-keeps (Of t) (leb o 14) _ _ (arithmetic-of o t a b (f .low)) (rw d (refl, bitwise-within o t a b (f .low)))))
 
     right : leb o 19 ≡ false → (c : Bool) → judged c bool ≡ typed v → Good v (apply o t a b)
-    right d c q = judged-good c bool v (apply o t a b) q (λ h. (fine-bool, apply-high o t a b d))
+    right d c q =
+        let x : Of bool (apply o t a b) = rw (lt-leb o 14 (omega (arith, leb-false o 19 d)), d)
+        (cond-keeps (Of bool) (leb o 25) _ _ (refl, truth-within (compare o a b)) (refl, truth-within (logic o a b))) in
+        judged-good c bool v (apply o t a b) q (λ h. (fine-bool, x))
 
 pub value-of : (en : Env) → GoodEnv en → (e : Exp) → precise e ≡ true → (t : Ty) → typeOf (en .scope) e ≡ typed t → Good t (valueOf en e)
 unfolding typeOf precise valueOf

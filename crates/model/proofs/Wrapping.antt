@@ -30,8 +30,7 @@ modZ-lt (pos a) m h = mod-lt a h
 modZ-lt (negsuc a) m h = omega arith
 
 pub pattern-lt : (t : Ty) (z : ℤ) → pattern t z < 2 ^ t .p
-unfolding pattern
-pattern-lt t z = modZ-lt z (2 ^ t .p) (pow-pos (t .p))
+pattern-lt t z = unfold pattern in modZ-lt z (2 ^ t .p) (pow-pos (t .p))
 
 -- ── a pattern read back ──────────────────────────────────────────────────────────────────────
 
@@ -55,32 +54,27 @@ half-mag false n (suc j) l = rw (lt-ltb n (suc j) l) (omega arith)
 
 -- by the kind: signed or not
 pub read-within : (t : Ty) (n : ℕ) → 1 ≤ t .p → n < 2 ^ t .p → within t (readBack t n) ≡ true
-unfolding within readBack signedOf least greatest
-read-within t n h l =
+read-within t n h l = unfold within readBack signedOf least greatest in
     cases (eqb (t .kind) 1) (λ e. rw e (half-in (ltb n (2 ^ (t .p - 1))) n (2 ^ (t .p - 1)) (2 ^ t .p) l (pow-half (t .p) h) refl))
     (λ e. rw (e, le-leb 0 n (omega arith), le-leb n (2 ^ t .p - 1) (omega arith)))
 
 pub read-mag : (t : Ty) (n : ℕ) → n < 2 ^ t .p → mag (readBack t n) < 2 ^ t .p
-unfolding readBack signedOf
-read-mag t n l = cases (eqb (t .kind) 1) (λ e. rw e (half-mag (ltb n (2 ^ (t .p - 1))) n (2 ^ t .p) l)) (λ e. rw e l)
+read-mag t n l = unfold readBack signedOf in cases (eqb (t .kind) 1) (λ e. rw e (half-mag (ltb n (2 ^ (t .p - 1))) n (2 ^ t .p) l)) (λ e. rw e l)
 
 -- ── wrapping ─────────────────────────────────────────────────────────────────────────────────
 
 pub wrap-within : (t : Ty) (z : ℤ) → 1 ≤ t .p → within t (wrap t z) ≡ true
-unfolding wrap
-wrap-within t z h = read-within t (pattern t z) h (pattern-lt t z)
+wrap-within t z h = unfold wrap in read-within t (pattern t z) h (pattern-lt t z)
 
 pub wrap-mag : (t : Ty) (z : ℤ) → mag (wrap t z) < 2 ^ t .p
-unfolding wrap
-wrap-mag t z = read-mag t (pattern t z) (pattern-lt t z)
+wrap-mag t z = unfold wrap in read-mag t (pattern t z) (pattern-lt t z)
 
 -- a value between -h and h - 1, back from its remainder modulo m
 signed-back : (z : ℤ) (h m : ℕ) → 0 < h → m ≡ 2 * h → between h z ≡ true → half-less (ltb (modZ z m) h) (modZ z m) m ≡ z
 unfolding modZ
-signed-back (pos n) zero m g e w = absurd (omega arith)
-signed-back (pos n) (suc k) m g e w =
-    let l : n ≤ suc k - 1 = leb-true n (suc k - 1) w in
-    rw (mod-eq-of-lt {n = n} {m = m} (omega arith), lt-ltb n (suc k) (omega arith))
+signed-back (pos n) h m g e w =
+    let l : n ≤ h - 1 = leb-true n (h - 1) (and-right (leZ (negℤ (pos h)) (pos n)) (leb n (h - 1)) w) in
+    rw (mod-eq-of-lt {n = n} {m = m} (omega arith), lt-ltb n h (omega arith))
 signed-back (negsuc n) zero m g e w = absurd (omega arith)
 signed-back (negsuc n) (suc k) zero g e w = absurd (omega arith)
 signed-back (negsuc n) (suc k) (suc j) g e w =
@@ -93,8 +87,7 @@ plain-back (pos n) m h w = ap pos (mod-eq-of-lt (omega (arith, leb-true n (m - 1
 plain-back (negsuc n) m h w = absurd (let z : _≡_ {A = ℕ} 0 1 = cc in omega arith)
 
 pub wrap-id : (t : Ty) (z : ℤ) → 1 ≤ t .p → within t z ≡ true → wrap t z ≡ z
-unfolding wrap within pattern readBack signedOf least greatest
-wrap-id t z h w =
+wrap-id t z h w = unfold wrap within pattern readBack signedOf least greatest in
     cases (eqb (t .kind) 1) (λ e. rw e (signed-back z (2 ^ (t .p - 1)) (2 ^ t .p) (pow-pos (t .p - 1)) (pow-half (t .p) h) (rw e at w)))
     (λ e. rw e (plain-back z (2 ^ t .p) (pow-pos (t .p)) (rw e at w)))
 
@@ -107,8 +100,7 @@ pow-30 h = pow-mono h
 -- ── four bytes ───────────────────────────────────────────────────────────────────────────────
 
 four-bytes : (n : ℕ) → n < 4294967296 → fourAt (fourBytes n) 0 ≡ n
-unfolding fourAt fourBytes
-four-bytes n l = omega arith
+four-bytes n l = unfold fourAt fourBytes in omega arith
 
 mag-between : (z : ℤ) → mag z < 2147483648 → between 2147483648 z ≡ true
 mag-between (pos n) l = le-leb n 2147483647 (omega arith)

@@ -12,7 +12,7 @@ use Rattle.model.specs.Bytes.{twoAt, twoBytes, valueAt, valueBytes}
 use Rattle.model.specs.Network.{Wire, Box, Proc, box, input, output, Own, vars, taken, got, varsOf, takenOf, gotOf, noToken}
 use Rattle.model.specs.States.{tokenBytes, tokensBytes, roomBytes, wireBytes, valuesBytes, ownBytes, wireSize, ownSize}
 use Rattle.model.proofs.Decoded.{Each, each-append}
-pub use Rattle.model.proofs.Saved.{length-tokens, length-room, length-values}
+pub use Rattle.model.proofs.Kept.{length-tokens, length-room, length-values}
 use Rattle.octets.proofs.Laws.{two-back, value-back, value-drop, length-two, length-value, length-token}
 use Rattle.queues.specs.Segments.{putMid}
 use Rattle.queues.specs.Queues.{WireRoom, WireHeld, GotRoom, pushBytes, popBytes, gotBytes, moved}

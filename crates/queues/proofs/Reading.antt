@@ -20,7 +20,7 @@ use Rattle.model.specs.Network.{Wire, Variable, Proc, box, input, output, Net, 
 use Rattle.model.specs.States.{tokenAt, readTokens, tokenBytes, tokensBytes, tokenFits, tokensFit, roomBytes, wireBytes, valuesBytes, ownBytes, wireSize, ownSize, allZero, roomFits, wireFits, queueIn, valuesIn, ownFits, ownIn}
 use Rattle.model.proofs.Tests.{and-left, and-right}
 use Rattle.model.proofs.Decoded.{Each, GoodType}
-use Rattle.model.proofs.Saved.{token-small, token-back}
+use Rattle.model.proofs.Kept.{token-small, token-back}
 use Rattle.octets.proofs.Laws.{Octets, two-take, value-take, value-drop, value-below}
 use Rattle.queues.specs.Sound.{Small, Sane, Held, Kept, ofBox, ofInput, ofOutput}
 

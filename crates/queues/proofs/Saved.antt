@@ -3,7 +3,7 @@
 use Prim.Native.Nat.{ℕ, zero, suc, _*_, _≤_, _<_}
 use mathlib.Core.Path.{_≡_, refl, sym, subst}
 use mathlib.Core.Bool.{true}
-use mathlib.Core.List.{List, [], _∷_, map, zipWith}
+use mathlib.Core.List.{List, [], _∷_, _++_, map, zipWith}
 use native.Mathlib.Omega.{arith}
 use native.Mathlib.Decide.{decLt}
 use lib.Dec.{leb}
@@ -15,12 +15,11 @@ use Rattle.model.specs.declared.Token.{Token}
 use Rattle.model.specs.Bytes.{twoAt, valueAt}
 use Rattle.model.specs.Values.{within}
 use Rattle.model.specs.Network.{Wire, Variable, Proc, box, input, output, Net, Own, vars, State, noToken, noWire, nobody, wire, capacity, proc, queue, own, varsOf, takenOf, gotOf}
-use Rattle.model.specs.States.{tokensFit, readTokens, wireBytes, ownBytes, wireSize, ownSize, wiresSize, allZero, roomFits, wireFits, ownFits, valuesFit, valuesIn, queueIn, ownIn, split, allTrue, wireParts, ownParts, stateFits, stateIn}
+use Rattle.model.specs.States.{bytesOf, tokensFit, readTokens, wireBytes, ownBytes, wireSize, ownSize, wiresSize, allZero, roomFits, wireFits, ownFits, valuesFit, valuesIn, queueIn, ownIn, split, allTrue, wireParts, ownParts, stateFits, stateIn}
 use Rattle.model.proofs.Tests.{and-left, and-right, and₂, and₃}
 use Rattle.model.proofs.Decoded.{Each, GoodType, GoodProc, GoodNet, noVariable}
 use Rattle.model.proofs.Kept.{GoodOwn, GoodState, fit-at}
-use Rattle.model.proofs.Saved.{within-small}
-pub use Rattle.model.proofs.Saved.{good-back, good-fits}
+use Rattle.model.proofs.Kept.{within-small, good-whole}
 use Rattle.octets.proofs.Laws.{Octets}
 use Rattle.queues.specs.Sound.{Both, neither, pair, Sane, Held, Kept, ofBox, ofInput, ofOutput, Sound}
 use Rattle.queues.proofs.Reading.{fits-sane, length-read, length-in, octets-drop}
@@ -60,6 +59,13 @@ module _ (n : Net) (gn : GoodNet n) (s : State) (gs : GoodState n s) where
     wires = both-make Held noWire [] (n .wires) (s .queues) (sym (gs .queues)) (λ w h. record { fits = gs .most w; sane = tokens-sane ((wire n w) .ty) (wire-type w h) (queue s w) (gs .fit w h) });
     procs = both-make Kept nobody (vars []) (n .procs) (s .owns) (sym (gs .owns)) (λ k h. own-laid (proc n k) (own s k) (gn .procs k h) (gs .kept k h));
   }
+
+  -- its bytes give it back, and are accepted
+  pub good-back : (rest : List ℕ) → stateIn n (bytesOf n s ++ rest) ≡ s
+  good-back rest = (good-whole n gn s gs rest) .state
+
+  pub good-fits : (rest : List ℕ) → stateFits n true (bytesOf n s ++ rest) ≡ true
+  good-fits rest = (good-whole n gn s gs rest) .accepted
 
 -- ── an accepted state is good ────────────────────────────────────────────────────────────────
 

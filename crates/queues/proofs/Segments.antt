@@ -8,7 +8,7 @@ use native.Mathlib.Nat.{not-suc-le-zero, le-of-suc-le-suc, zero-add, suc-add}
 use lib.ListN.{length, getD, take, drop, set, length-append, length-take, drop-of-length-le}
 use lib.Seq.{take-append-seam, drop-append-seam, take-append-add, drop-append-add}
 use Rattle.model.specs.States.{cat, sum}
-pub use Rattle.model.proofs.Saved.{cat-append}
+pub use Rattle.model.proofs.Kept.{cat-append}
 use Rattle.queues.specs.Segments.{mid, putMid, startOf}
 
 -- ── one part ─────────────────────────────────────────────────────────────────────────────────
