@@ -1,10 +1,9 @@
 -- What the fields of an accepted network file are like, by one induction over the walk.
 -- Assumes nothing.
-use mathlib.Core.Path.{_≡_, refl, sym, ap, _∙_, subst}
-use mathlib.Core.Logic.{_⊎_, inl, inr, ⊎-elim}
-use mathlib.Core.Bool.{Bool, true, false, cond, _&&_}
+use mathlib.Core.Path.{_≡_, refl, sym, _∙_, subst}
+use mathlib.Core.Bool.{Bool, true, false, cond}
 use mathlib.Core.List.{List, [], _∷_, _++_}
-use Prim.Native.Nat.{ℕ, zero, suc, _+_, _-_, _*_, _≤_, _<_}
+use Prim.Native.Nat.{ℕ, zero, suc, _+_, _-_, _≤_, _<_}
 use native.Mathlib.Omega.{arith}
 use native.Mathlib.Decide.{decLt, ℕ-discrete}
 use lib.Dec.{eqb, leb, ltb}
@@ -18,7 +17,7 @@ use Rattle.model.specs.Values.{inPrecision}
 use Rattle.model.specs.Expressions.{typeAt, expressionLimits}
 use Rattle.model.specs.Rules.{Shape, Rule, ruleRead, actionLimits}
 use Rattle.model.proofs.Tests.{and₃, and₄, and₅}
-use Rattle.model.specs.NetworkFile.{Index, every, variableStart, noFields, fieldAt, faultOf, wireForm, wireLimits, wireTypeFits, boxForm, boxLimits, boxTypes, ruleIn, ruleForm, ruleLimits, ruleTypes, inputForm, outputForm, outputLimits, bodyAt, wiresOf, shapeAt, rulesEnd, ruleAt, inOrder, fieldFault, addField, Verdict, good, refuse, Step, stop, go, onward, onField, step, walk, fields}
+use Rattle.model.specs.NetworkFile.{Index, every, variableStart, noFields, fieldAt, faultOf, wireForm, wireLimits, wireTypeFits, boxForm, boxLimits, boxTypes, ruleIn, ruleForm, ruleLimits, ruleTypes, inputForm, outputForm, outputLimits, bodyAt, wiresOf, shapeAt, rulesEnd, ruleAt, inOrder, fieldFault, addField, good, refuse, Step, stop, go, onward, onField, step, walk, fields}
 
 -- ── one induction for all facts ──────────────────────────────────────────────────────────────
 

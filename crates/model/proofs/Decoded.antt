@@ -1,6 +1,6 @@
 -- What the network that an accepted file describes is like.
 -- Assumes nothing.
-use mathlib.Core.Path.{_≡_, refl, sym, ap, ap₂, _∙_, subst}
+use mathlib.Core.Path.{_≡_, refl, ap, _∙_, subst}
 use mathlib.Core.Bool.{Bool, true, false, not, cond, _&&_, _||_}
 use mathlib.Core.List.{List, [], _∷_, _++_, map}
 use Prim.Native.Nat.{ℕ, zero, suc, _+_, _-_, _*_, _≤_, _<_}
@@ -8,20 +8,19 @@ use native.Mathlib.Omega.{arith}
 use native.Mathlib.Decide.{decLt}
 use lib.Dec.{eqb, leb, ltb}
 use lib.IntN.{pos}
-use lib.ListN.{length, getD, take, drop, length-append, length-take, length-drop, length-map, List·getD-append, List·getD-map}
-use lib.Seq.{getD-append-add, getD-take, getD-drop, length-take-le}
-use borrow.Author.Tests.{eqb-true, eqb-false, leb-true, ltb-true, ltb-false, le-leb}
+use lib.ListN.{length, getD, drop, length-drop, length-map}
+use lib.Seq.{getD-take, getD-drop, length-take-le}
+use borrow.Author.Tests.{eqb-true, eqb-false, leb-true, ltb-true, le-leb}
 use Rattle.model.specs.declared.Ty.{Ty}
-use Rattle.model.specs.declared.Token.{Token}
 use Rattle.model.specs.Bytes.{twoAt, valueAt, stretch}
 use Rattle.model.specs.Values.{noType, isPlain, wellSized, inPrecision, within}
-use Rattle.model.specs.Expressions.{Read, bad, got, after, readMany, provided, typeAt, expression, expressionLimits, Exp}
-use Rattle.model.specs.Rules.{Rule, noRule, Pattern, Action, nothing, bare, send, bareAction, sentTag, holdsExpression, Shape, Fit, fits, fails, isFit, ruleFits, ruleRead, isWhole, readRule, readPattern, readAction, inputCode, variableCode, outputAction, variableAction, actionLimits}
-use Rattle.model.specs.Network.{Wire, Variable, Box, Proc, box, input, output, Net, wire, proc, rule, nobody, noWire, insOf, outsOf, shapeOf, wireTypes, variableTypes}
-use Rattle.model.specs.NetworkFile.{Index, every, tabulate, wireForm, wireLimits, wireTypeFits, boxForm, boxLimits, boxTypes, variableStart, variableFits, variableOf, ruleIn, ruleForm, ruleLimits, ruleTypes, inputForm, outputForm, outputLimits, bodyAt, wireOf, boxOf, wiresOf, shapeAt, rulesEnd, ruleAt, rulesOf, boxAt, inputAt, outputAt, netOf}
+use Rattle.model.specs.Expressions.{Read, bad, got, after, readMany, provided, typeAt, expression, expressionLimits}
+use Rattle.model.specs.Rules.{Rule, noRule, Action, nothing, bare, send, bareAction, sentTag, holdsExpression, Shape, Fit, fits, fails, isFit, ruleFits, ruleRead, isWhole, readRule, readPattern, readAction, inputCode, variableCode, outputAction, variableAction, actionLimits}
+use Rattle.model.specs.Network.{Wire, Variable, Box, Proc, box, input, output, Net, wire, nobody, noWire, shapeOf, wireTypes, variableTypes}
+use Rattle.model.specs.NetworkFile.{Index, every, tabulate, wireForm, wireLimits, wireTypeFits, boxForm, boxLimits, boxTypes, variableStart, variableFits, variableOf, ruleIn, ruleForm, ruleLimits, ruleTypes, bodyAt, wireOf, boxOf, wiresOf, shapeAt, rulesEnd, ruleAt, rulesOf, boxAt}
 use Rattle.model.specs.States.{tokensFit}
-use Rattle.model.proofs.Tests.{and-left, and-right, and₂, and₃, and₄, and₅, not-true}
-use Rattle.model.proofs.Accepted.{Passes, InFile, WireField, BoxField, RuleField, InputField, OutputField, Valid}
+use Rattle.model.proofs.Tests.{and-left, and-right, and₂, and₄, and₅, not-true}
+use Rattle.model.proofs.Accepted.{Passes, InFile, WireField, RuleField, Valid}
 
 -- ── lists ────────────────────────────────────────────────────────────────────────────────────
 

@@ -3,11 +3,8 @@ pub mod Workbook
 pub mod Tests
 pub mod Wrapping
 pub mod Typing
-pub mod Wires
 pub mod Order
-pub mod Readiness
 pub mod Sound
-pub mod OrderCheck
 pub mod Accepted
 pub mod Decoded
 pub mod Lookup

@@ -1,15 +1,15 @@
 -- What stands at each number of the network that an index describes.
 -- Assumes nothing.
-use mathlib.Core.Path.{_≡_, refl, sym, ap, _∙_}
-use mathlib.Core.List.{List, [], _∷_, _++_, map}
-use Prim.Native.Nat.{ℕ, zero, suc, _+_, _-_, _≤_, _<_}
+use mathlib.Core.Path.{_≡_, sym, ap, _∙_}
+use mathlib.Core.List.{List, _++_}
+use Prim.Native.Nat.{ℕ, _+_, _-_, _<_}
 use native.Mathlib.Omega.{arith}
 use lib.ListN.{length, getD, length-append, length-map, List·getD-append}
 use lib.Seq.{getD-append-add}
 use Rattle.model.specs.declared.Token.{Token}
-use Rattle.model.specs.Rules.{Rule, noRule, ruleRead}
-use Rattle.model.specs.Network.{Wire, Box, Proc, box, input, output, Net, noWire, nobody, wire, proc, rule}
-use Rattle.model.specs.NetworkFile.{Index, tabulate, bodyAt, wireOf, wiresOf, boxOf, shapeAt, rulesEnd, ruleAt, ruleIn, rulesOf, boxAt, inputAt, outputAt, netOf}
+use Rattle.model.specs.Rules.{noRule, ruleRead}
+use Rattle.model.specs.Network.{Proc, box, Net, noWire, nobody, wire, proc, rule}
+use Rattle.model.specs.NetworkFile.{Index, tabulate, bodyAt, wireOf, wiresOf, shapeAt, rulesEnd, ruleAt, ruleIn, rulesOf, boxAt, inputAt, outputAt, netOf}
 use Rattle.model.proofs.Decoded.{length-tabulate, getD-tabulate, getD-map-lt}
 
 module _ (s : List ℕ) (x : Index) (tokens : List (List Token)) where

@@ -1,77 +1,125 @@
--- Any two orders of the same firings end in the same state.
+-- The queues after a firing, wire by wire; any two orders of the same firings end in the same state.
 -- Assumes nothing.
-use mathlib.Core.Path.{_≡_, refl, sym, ap, ap₂, _∙_, subst}
-use mathlib.Core.Logic.{_≢_, _⊎_, inl, inr}
-use mathlib.Core.Bool.{Bool, true, false}
+use mathlib.Core.Path.{_≡_, refl, sym, ap, ap₂, _∙_}
+use mathlib.Core.Logic.{_≢_}
+use mathlib.Core.Bool.{Bool, true, false, cond}
 use mathlib.Core.Option.{Option, none, some}
 use mathlib.Core.List.{List, [], _∷_, _++_, append-nil, append-assoc}
-use Prim.Native.Nat.{ℕ, zero, suc, _+_, _-_, _≤_, _<_}
+use Prim.Native.Nat.{ℕ, zero, suc, _+_, _≤_, _<_}
 use native.Mathlib.Omega.{arith}
 use native.Mathlib.Nat.{add-comm}
-use native.Mathlib.Decide.{decLt}
-use lib.Dec.{eqb}
-use lib.ListN.{length, getD, set, drop, length-set, length-append, length-drop, List·getD-eq-default}
-use lib.Seq.{drop-drop, drop-append-le, getD-set-other, set-comm, ext-getD}
-use borrow.Author.Tests.{eqb-true, eqb-false, eq-eqb, ne-eqb}
+use lib.Dec.{eqb, ltb}
+use lib.ListN.{length, getD, set, drop, length-set, length-append, length-drop, List·getD-eq-default, drop-of-length-le}
+use lib.Seq.{drop-drop, drop-append-le, getD-set-same, getD-set-other, lt-length-set, set-comm, ext-getD}
+use borrow.Author.Tests.{eq-eqb, ne-eqb, ltb-true, ltb-false}
 use Rattle.model.specs.declared.Token.{Token}
-use Rattle.model.specs.Network.{Proc, Net, State, Own, queue, own, proc, nobody, capacity, insOf, outsOf}
+use Rattle.model.specs.Network.{Proc, Net, Wire, State, Own, vars, queue, own, proc, nobody, wire, noWire, capacity, insOf, outsOf}
 use Rattle.model.specs.NetworkFile.{hit, count, ports}
-use Rattle.model.specs.Cycles.{Move, Deed, Mark, takeAll, putAll, act, moves, look, seen, reads, oldest, deed, deedOf, ruleOf, fire, fireAll, readsOf, sentOf}
+use Rattle.model.specs.Cycles.{Move, Deed, Mark, takeAll, putAll, act, moves, look, seen, oldest, deed, deedOf, ruleOf, fire, fireAll, readsOf}
 use Rattle.model.specs.Orders.{joined, onWire}
-use Rattle.model.proofs.Wires.{length-takeAll, length-putAll, queue-act, length-joined, moves-count, port-one, port-two}
+use Rattle.model.proofs.Tests.{cases, same-or}
 
--- no wire has two reading ports or two writing ports
-pub record OneEach (n : Net) : Type 0 where
-  pub readers : (w : ℕ) → count w (ports insOf (n .procs)) ≤ 1
-  pub writers : (w : ℕ) → count w (ports outsOf (n .procs)) ≤ 1
+-- ── counts ───────────────────────────────────────────────────────────────────────────────────
 
--- process k, fired in s, finds a token on each wire that it reads and a place on each wire that it writes
-pub record Ready (n : Net) (m : ℕ → Mark) (k : ℕ) (s : State) : Type 0 where
-  pub has : (w : ℕ) → length (onWire w ((deed n m k s) .took)) ≤ length (queue s w)
-  pub room : (w : ℕ) → length (queue s w) + length (onWire w ((deed n m k s) .put)) ≤ capacity n w
+pub hit-same : (v w : ℕ) → v ≡ w → hit (eqb v w) ≡ 1
+hit-same v w e = unfold hit in ap hit (eq-eqb v w e)
 
--- the list with the first k left out
-unfoldable pub without : Bool → ℕ → List ℕ → List ℕ → List ℕ
-without true j js rest = js
-without false j js rest = j ∷ rest
+pub hit-other : (v w : ℕ) → v ≢ w → hit (eqb v w) ≡ 0
+hit-other v w e = unfold hit in ap hit (ne-eqb v w e)
 
-unfoldable pub remove : ℕ → List ℕ → List ℕ
-remove k [] = []
-remove k (j ∷ js) = without (eqb j k) j js (remove k js)
+pub length-joined : (b : Bool) (t : Token) (ts : List Token) → length (joined b t ts) ≡ hit b + length ts
+unfolding joined hit
+length-joined true t ts = omega arith
+length-joined false t ts = omega arith
+
+pub moves-count : (ws : List ℕ) (ts : List (Option Token)) (w : ℕ) → length (onWire w (moves ws ts)) ≤ count w ws
+unfolding moves onWire count
+moves-count [] ts w = omega arith
+moves-count (v ∷ ws) [] w = omega arith
+moves-count (v ∷ ws) (none ∷ ts) w = omega (arith, moves-count ws ts w)
+moves-count (v ∷ ws) (some t ∷ ts) w = omega (arith, moves-count ws ts w, length-joined (eqb v w) t (onWire w (moves ws ts)))
+
+pub count-append : (w : ℕ) (xs ys : List ℕ) → count w (xs ++ ys) ≡ count w xs + count w ys
+unfolding count
+count-append w [] ys = omega arith
+count-append w (x ∷ xs) ys = omega (arith, count-append w xs ys)
+
+-- the ports of one process, and of two, are among all ports
+module _ (f : Proc → List ℕ) (w : ℕ) (none′ : count w (f nobody) ≡ 0) where
+  port-one : (ps : List Proc) (j : ℕ) → count w (f (getD ps j nobody)) ≤ count w (ports f ps)
+  unfolding ports
+  port-one [] j = omega arith
+  port-one (p ∷ ps) zero = omega (arith, count-append w (f p) (ports f ps))
+  port-one (p ∷ ps) (suc j) = omega (arith, count-append w (f p) (ports f ps), port-one ps j)
+
+  port-two : (ps : List Proc) (j k : ℕ) → j ≢ k → count w (f (getD ps j nobody)) + count w (f (getD ps k nobody)) ≤ count w (ports f ps)
+  unfolding ports
+  port-two [] j k h = omega arith
+  port-two (p ∷ ps) zero zero h = absurd (h refl)
+  port-two (p ∷ ps) zero (suc k) h = omega (arith, count-append w (f p) (ports f ps), port-one ps k)
+  port-two (p ∷ ps) (suc j) zero h = omega (arith, count-append w (f p) (ports f ps), port-one ps j)
+  port-two (p ∷ ps) (suc j) (suc k) h = omega (arith, count-append w (f p) (ports f ps), port-two ps j k (λ e. h (ap suc e)))
+
+-- ── one wire after a deed ────────────────────────────────────────────────────────────────────
+
+length-takeAll : (ms : List Move) (qs : List (List Token)) → length (takeAll ms qs) ≡ length qs
+unfolding takeAll
+length-takeAll [] qs = refl
+length-takeAll (m ∷ ms) qs = length-takeAll ms (set qs (m .wire) (drop 1 (getD qs (m .wire) []))) ∙ length-set qs (m .wire) _
+
+length-putAll : (ms : List Move) (qs : List (List Token)) → length (putAll ms qs) ≡ length qs
+unfolding putAll
+length-putAll [] qs = refl
+length-putAll (m ∷ ms) qs = length-putAll ms (set qs (m .wire) (getD qs (m .wire) [] ++ (m .token ∷ []))) ∙ length-set qs (m .wire) _
+
+takeAll-at : (ms : List Move) (qs : List (List Token)) (w : ℕ) → w < length qs → getD (takeAll ms qs) w [] ≡ drop (length (onWire w ms)) (getD qs w [])
+unfolding takeAll onWire joined
+takeAll-at [] qs w h = refl
+takeAll-at (m ∷ ms) qs w h =
+    let x = drop 1 (getD qs (m .wire) []) in
+    let e : 1 + length (onWire w ms) ≡ suc (length (onWire w ms)) = omega arith in
+    takeAll-at ms (set qs (m .wire) x) w (lt-length-set qs (m .wire) x h)
+    ∙ same-or (m .wire) w (λ q. rw (q, eq-eqb w w refl, getD-set-same qs w (drop 1 (getD qs w [])) [] h) (rw e at (drop-drop (length (onWire w ms)) 1 (getD qs w []))))
+    (λ f. rw (ne-eqb (m .wire) w f, getD-set-other qs (m .wire) w x [] (λ p. f (sym p))))
+
+putAll-at : (ms : List Move) (qs : List (List Token)) (w : ℕ) → w < length qs → getD (putAll ms qs) w [] ≡ getD qs w [] ++ onWire w ms
+unfolding putAll onWire joined
+putAll-at [] qs w h = sym (append-nil (getD qs w []))
+putAll-at (m ∷ ms) qs w h =
+    let x = getD qs (m .wire) [] ++ (m .token ∷ []) in
+    putAll-at ms (set qs (m .wire) x) w (lt-length-set qs (m .wire) x h)
+    ∙ same-or (m .wire) w (λ e. rw (e, eq-eqb w w refl, getD-set-same qs w (getD qs w [] ++ (m .token ∷ [])) [] h) (append-assoc (getD qs w []) (m .token ∷ []) (onWire w ms)))
+    (λ f. rw (ne-eqb (m .wire) w f, getD-set-other qs (m .wire) w x [] (λ p. f (sym p))))
+
+pub queue-act : (k : ℕ) (d : Deed) (s : State) (w : ℕ) → w < length (s .queues)
+    → queue (act k d s) w ≡ drop (length (onWire w (d .took))) (queue s w) ++ onWire w (d .put)
+queue-act k d s w h = unfold queue act in
+    putAll-at (d .put) (takeAll (d .took) (s .queues)) w (rw length-takeAll h)
+    ∙ ap (λ (q : List Token). q ++ onWire w (d .put)) (takeAll-at (d .took) (s .queues) w h)
+
+pub length-act : (k : ℕ) (d : Deed) (s : State) → length ((act k d s) .queues) ≡ length (s .queues)
+length-act k d s = unfold act in length-putAll (d .put) (takeAll (d .took) (s .queues)) ∙ length-takeAll (d .took) (s .queues)
+
+queue-past : (s : State) (w : ℕ) → length (s .queues) ≤ w → queue s w ≡ []
+queue-past s w h = unfold queue in List·getD-eq-default (s .queues) [] h
 
 -- ── what a process sees is untouched by what is put behind it ───────────────────────────────
 
-pub oldest-append : (q x : List Token) → 1 ≤ length q → oldest (q ++ x) ≡ oldest q
+oldest-append : (q x : List Token) → 1 ≤ length q → oldest (q ++ x) ≡ oldest q
 unfolding oldest
 oldest-append [] x h = absurd (omega arith)
 oldest-append (t ∷ q) x h = refl
 
-seen-frame : (b : Bool) (q q′ : List Token) → (b ≡ true → oldest q′ ≡ oldest q) → seen b q′ ≡ seen b q
-unfolding seen
-seen-frame true q q′ h = ap {B = Option Token} some (h refl)
-seen-frame false q q′ h = refl
-
-moves-here : (v : ℕ) (ws : List ℕ) (b : Bool) (q : List Token) (ts : List (Option Token)) → b ≡ true → 1 ≤ length (onWire v (moves (v ∷ ws) (seen b q ∷ ts)))
-unfolding seen moves onWire hit
-moves-here v ws true q ts e =
-    let h : eqb v v ≡ true = eq-eqb v v refl in
-    omega (arith, length-joined (eqb v v) (oldest q) (onWire v (moves ws ts)), ap hit h)
-moves-here v ws false q ts e = let z : _≡_ {A = ℕ} 0 1 = cc in absurd (omega arith)
-
-moves-more : (v : ℕ) (ws : List ℕ) (x : Option Token) (ts : List (Option Token)) (w : ℕ) → length (onWire w (moves ws ts)) ≤ length (onWire w (moves (v ∷ ws) (x ∷ ts)))
-unfolding moves onWire
-moves-more v ws none ts w = omega arith
-moves-more v ws (some t) ts w = omega (arith, length-joined (eqb v w) t (onWire w (moves ws ts)))
-
 look-frame : (s s′ : State) (ws : List ℕ) (ps : List Bool)
     → ((w : ℕ) → 1 ≤ length (onWire w (moves ws (look s ws ps))) → oldest (queue s′ w) ≡ oldest (queue s w)) → look s′ ws ps ≡ look s ws ps
-unfolding look
+unfolding look seen moves onWire
 look-frame s s′ [] ps h = refl
 look-frame s s′ (v ∷ ws) [] h = refl
-look-frame s s′ (v ∷ ws) (p ∷ ps) h =
-    ap₂ (λ (x : Option Token) (xs : List (Option Token)). x ∷ xs)
-    (seen-frame p (queue s v) (queue s′ v) (λ e. h v (moves-here v ws p (queue s v) (look s ws ps) e)))
-    (look-frame s s′ ws ps (λ w g. h w (omega (arith, g, moves-more v ws (seen p (queue s v)) (look s ws ps) w))))
+look-frame s s′ (v ∷ ws) (false ∷ ps) h = ap (λ (xs : List (Option Token)). none ∷ xs) (look-frame s s′ ws ps h)
+look-frame s s′ (v ∷ ws) (true ∷ ps) h =
+    ap₂ (λ (t : Token) (xs : List (Option Token)). some t ∷ xs)
+    (h v (omega (arith, length-joined (eqb v v) (oldest (queue s v)) (onWire v (moves ws (look s ws ps))), hit-same v v refl)))
+    (look-frame s s′ ws ps (λ w g. h w (omega (arith, g, length-joined (eqb v w) (oldest (queue s v)) (onWire w (moves ws (look s ws ps)))))))
 
 -- ── two deeds on one state ───────────────────────────────────────────────────────────────────
 
@@ -83,172 +131,126 @@ swap-short (x ∷ a) (y ∷ b) h = absurd (omega arith)
 drop-both : (a b : ℕ) (q x : List Token) → a + b ≤ length q → drop b (drop a q ++ x) ≡ drop (a + b) q ++ x
 drop-both a b q x h = drop-append-le b (drop a q) x (simp length-drop (omega arith)) ∙ ap (λ (l : List Token). l ++ x) (drop-drop b a q)
 
-wire-commute : (a b : ℕ) (q x y : List Token) → a + b ≤ length q → length x + length y ≤ 1
-    → drop b (drop a q ++ x) ++ y ≡ drop a (drop b q ++ y) ++ x
+wire-commute : (a b : ℕ) (q x y : List Token) → a + b ≤ length q → length x + length y ≤ 1 → drop b (drop a q ++ x) ++ y ≡ drop a (drop b q ++ y) ++ x
 wire-commute a b q x y h g =
-    ap (λ (l : List Token). l ++ y) (drop-both a b q x h)
-    ∙ append-assoc (drop (a + b) q) x y
-    ∙ ap₂ (λ (c : ℕ) (l : List Token). drop c q ++ l) (add-comm a b) (swap-short x y g)
-    ∙ sym (append-assoc (drop (b + a) q) y x)
-    ∙ sym (ap (λ (l : List Token). l ++ x) (drop-both b a q y (omega arith)))
-
-pub length-act : (k : ℕ) (d : Deed) (s : State) → length ((act k d s) .queues) ≡ length (s .queues)
-unfolding act
-length-act k d s = length-putAll (d .put) (takeAll (d .took) (s .queues)) ∙ length-takeAll (d .took) (s .queues)
+    rw (drop-both a b q x h, drop-both b a q y (omega arith), add-comm a b, append-assoc (drop (b + a) q) x y, append-assoc (drop (b + a) q) y x, swap-short x y g)
 
 module _ (j k : ℕ) (d e : Deed) (s : State) (ne : j ≢ k)
     (hs : (w : ℕ) → length (onWire w (d .took)) + length (onWire w (e .took)) ≤ length (queue s w))
     (ps : (w : ℕ) → length (onWire w (d .put)) + length (onWire w (e .put)) ≤ 1) where
   commute-at : (w : ℕ) → w < length (s .queues) → queue (act j d (act k e s)) w ≡ queue (act k e (act j d s)) w
   commute-at w h =
-      queue-act j d (act k e s) w (rw length-act h)
-      ∙ ap (λ (q : List Token). drop (length (onWire w (d .took))) q ++ onWire w (d .put)) (queue-act k e s w h)
-      ∙ wire-commute (length (onWire w (e .took))) (length (onWire w (d .took))) (queue s w) (onWire w (e .put)) (onWire w (d .put)) (omega (arith, hs w)) (omega (arith, ps w))
-      ∙ sym (ap (λ (q : List Token). drop (length (onWire w (e .took))) q ++ onWire w (e .put)) (queue-act j d s w h))
-      ∙ sym (queue-act k e (act j d s) w (rw length-act h))
+      let hk : w < length ((act k e s) .queues) = rw length-act h in
+      let hj : w < length ((act j d s) .queues) = rw length-act h in
+      rw (queue-act j d (act k e s) w hk, queue-act k e (act j d s) w hj, queue-act k e s w h, queue-act j d s w h)
+      (wire-commute (length (onWire w (e .took))) (length (onWire w (d .took))) (queue s w) (onWire w (e .put)) (onWire w (d .put)) (omega (arith, hs w)) (omega (arith, ps w)))
 
   commute-queues : (act j d (act k e s)) .queues ≡ (act k e (act j d s)) .queues
-  unfolding queue
-  commute-queues = ext-getD [] _ _ (simp length-act) (λ w h. commute-at w (simp length-act at h))
+  commute-queues = unfold queue in ext-getD [] _ _ (simp length-act) (λ w h. commute-at w (simp length-act at h))
 
   commute-owns : (act j d (act k e s)) .owns ≡ (act k e (act j d s)) .owns
-  unfolding act
-  commute-owns = set-comm (s .owns) k j (e .keeps) (d .keeps) (λ p. ne (sym p))
+  commute-owns = unfold act in set-comm (s .owns) k j (e .keeps) (d .keeps) (λ p. ne (sym p))
 
   act-commute : act j d (act k e s) ≡ act k e (act j d s)
   act-commute = λ i. record { queues = commute-queues i; owns = commute-owns i }
 
 -- ── two firings of one cycle ─────────────────────────────────────────────────────────────────
 
-pub nobody-reads : (w : ℕ) → count w (insOf nobody) ≡ 0
-unfolding insOf nobody count
-nobody-reads w = refl
+-- no wire has two reading ports or two writing ports
+pub record OneEach (n : Net) : Type 0 where
+  pub readers : (w : ℕ) → count w (ports insOf (n .procs)) ≤ 1
+  pub writers : (w : ℕ) → count w (ports outsOf (n .procs)) ≤ 1
 
-pub nobody-writes : (w : ℕ) → count w (outsOf nobody) ≡ 0
-unfolding outsOf nobody count
-nobody-writes w = refl
+-- process k, fired in s, finds a token on each wire that it reads and a place on each wire that it writes
+pub record Ready (n : Net) (m : ℕ → Mark) (k : ℕ) (s : State) : Type 0 where
+  pub shape : length (s .queues) ≡ length (n .wires)
+  pub has : (w : ℕ) → length (onWire w ((deed n m k s) .took)) ≤ length (queue s w)
+  pub room : (w : ℕ) → length (queue s w) + length (onWire w ((deed n m k s) .put)) ≤ capacity n w
 
-pub queue-past : (s : State) (w : ℕ) → length (s .queues) ≤ w → queue s w ≡ []
-unfolding queue
-queue-past s w h = List·getD-eq-default (s .queues) [] h
-
-pub inside : (s : State) (w : ℕ) → 1 ≤ length (queue s w) → w < length (s .queues)
-inside s w h = go (decLt w (length (s .queues)))
-  where
-    go : Dec (w < length (s .queues)) → w < length (s .queues)
-    go (yes g) = g
-    go (no f) = absurd (omega (arith, ap length (queue-past s w (omega (arith, f)))))
-
-pub own-other : (j k : ℕ) (d : Deed) (s : State) → j ≢ k → own (act k d s) j ≡ own s j
-unfolding own act
-own-other j k d s ne = getD-set-other (s .owns) k j (d .keeps) _ ne
+no-capacity : (n : Net) (w : ℕ) → length (n .wires) ≤ w → capacity n w ≡ 0
+no-capacity n w h = unfold capacity wire noWire in ap (λ (x : Wire). x .capacity) (List·getD-eq-default (n .wires) noWire h)
 
 module _ (n : Net) (m : ℕ → Mark) (one : OneEach n) where
-  took-two : (j k : ℕ) (s s′ : State) (w : ℕ) → j ≢ k → length (onWire w ((deed n m j s) .took)) + length (onWire w ((deed n m k s′) .took)) ≤ 1
-  unfolding deed deedOf proc
-  took-two j k s s′ w ne =
-      omega (
-        arith,
-        one .readers w,
-        port-two insOf w (nobody-reads w) (n .procs) j k ne,
-        moves-count (insOf (proc n j)) (look s (insOf (proc n j)) (readsOf (proc n j) (ruleOf (m j)))) w,
-        moves-count (insOf (proc n k)) (look s′ (insOf (proc n k)) (readsOf (proc n k) (ruleOf (m k)))) w,
-      )
+  -- what a firing takes and puts on a wire is not more than its ports there
+  took-count : (k : ℕ) (s : State) (w : ℕ) → length (onWire w ((deed n m k s) .took)) ≤ count w (insOf (getD (n .procs) k nobody))
+  took-count k s w = unfold deed deedOf proc in moves-count (insOf (proc n k)) _ w
+
+  put-count : (k : ℕ) (s : State) (w : ℕ) → length (onWire w ((deed n m k s) .put)) ≤ count w (outsOf (getD (n .procs) k nobody))
+  put-count k s w = unfold deed deedOf proc in moves-count (outsOf (proc n k)) _ w
 
   pub took-one : (k : ℕ) (s : State) (w : ℕ) → length (onWire w ((deed n m k s) .took)) ≤ 1
-  unfolding deed deedOf proc
-  took-one k s w =
-      omega (
-        arith,
-        one .readers w,
-        port-one insOf w (nobody-reads w) (n .procs) k,
-        moves-count (insOf (proc n k)) (look s (insOf (proc n k)) (readsOf (proc n k) (ruleOf (m k)))) w,
-      )
+  took-one k s w = omega (arith, one .readers w, port-one insOf w (unfold insOf nobody count in refl) (n .procs) k, took-count k s w)
 
-  put-two : (j k : ℕ) (s s′ : State) (w : ℕ) → j ≢ k → length (onWire w ((deed n m j s) .put)) + length (onWire w ((deed n m k s′) .put)) ≤ 1
-  unfolding deed deedOf proc
-  put-two j k s s′ w ne =
-      omega (
-        arith,
-        one .writers w,
-        port-two outsOf w (nobody-writes w) (n .procs) j k ne,
-        moves-count (outsOf (proc n j)) (sentOf n (proc n j) (ruleOf (m j)) (look s (insOf (proc n j)) (readsOf (proc n j) (ruleOf (m j)))) (own s j)) w,
-        moves-count (outsOf (proc n k)) (sentOf n (proc n k) (ruleOf (m k)) (look s′ (insOf (proc n k)) (readsOf (proc n k) (ruleOf (m k)))) (own s′ k)) w,
-      )
+  pub put-one : (k : ℕ) (s : State) (w : ℕ) → length (onWire w ((deed n m k s) .put)) ≤ 1
+  put-one k s w = omega (arith, one .writers w, port-one outsOf w (unfold outsOf nobody count in refl) (n .procs) k, put-count k s w)
+
+  took-two : (j k : ℕ) (s : State) (w : ℕ) → j ≢ k → length (onWire w ((deed n m j s) .took)) + length (onWire w ((deed n m k s) .took)) ≤ 1
+  took-two j k s w ne = omega (arith, one .readers w, port-two insOf w (unfold insOf nobody count in refl) (n .procs) j k ne, took-count j s w, took-count k s w)
+
+  put-two : (j k : ℕ) (s : State) (w : ℕ) → j ≢ k → length (onWire w ((deed n m j s) .put)) + length (onWire w ((deed n m k s) .put)) ≤ 1
+  put-two j k s w ne = omega (arith, one .writers w, port-two outsOf w (unfold outsOf nobody count in refl) (n .procs) j k ne, put-count j s w, put-count k s w)
+
+  -- a wire's queue after a firing, declared or not
+  pub queue-fire : (k : ℕ) (s : State) → Ready n m k s → (w : ℕ)
+      → queue (fire n m k s) w ≡ drop (length (onWire w ((deed n m k s) .took))) (queue s w) ++ onWire w ((deed n m k s) .put)
+  queue-fire k s r w = unfold fire in
+      let d = deed n m k s in
+      cases (ltb w (length (s .queues))) (λ e. queue-act k d s w (ltb-true w (length (s .queues)) e)) (λ e.
+      let f = ltb-false w (length (s .queues)) e in
+      let past = queue-past s w f in
+      let t : length (onWire w (d .took)) ≡ 0 = omega (arith, r .has w, ap length past) in
+      let p : onWire w (d .put) ≡ [] = drop-of-length-le (onWire w (d .put)) {i = 0} (omega (arith, r .room w, no-capacity n w (omega (arith, f, r .shape)))) in
+      queue-past (act k d s) w (rw length-act f) ∙ sym (rw (t, p, past)))
+
+  pub length-fire : (k : ℕ) (s : State) → Ready n m k s → (w : ℕ)
+      → length (queue (fire n m k s) w) + length (onWire w ((deed n m k s) .took)) ≡ length (queue s w) + length (onWire w ((deed n m k s) .put))
+  length-fire k s r w = let e = simp (length-append, length-drop) at (ap length (queue-fire k s r w)) in omega (arith, e, r .has w)
 
   -- the oldest token of a wire that j reads is the same after k has fired
-  oldest-frame : (j k : ℕ) (s : State) → j ≢ k → Ready n m j s → (w : ℕ) → 1 ≤ length (onWire w ((deed n m j s) .took))
+  oldest-frame : (j k : ℕ) (s : State) → j ≢ k → Ready n m j s → Ready n m k s → (w : ℕ) → 1 ≤ length (onWire w ((deed n m j s) .took))
       → oldest (queue (fire n m k s) w) ≡ oldest (queue s w)
-  unfolding fire
-  oldest-frame j k s ne r w h =
-      let z : length (onWire w ((deed n m k s) .took)) ≡ 0 = omega (arith, took-two j k s s w ne) in
-      let l : 1 ≤ length (queue s w) = omega (arith, r .has w) in
-      ap oldest (queue-act k (deed n m k s) s w (inside s w l))
-      ∙ ap (λ (c : ℕ). oldest (drop c (queue s w) ++ onWire w ((deed n m k s) .put))) z
-      ∙ oldest-append (queue s w) (onWire w ((deed n m k s) .put)) l
+  oldest-frame j k s ne r q w h =
+      let z : length (onWire w ((deed n m k s) .took)) ≡ 0 = omega (arith, took-two j k s w ne) in
+      ap oldest (queue-fire k s q w) ∙ rw z (oldest-append (queue s w) (onWire w ((deed n m k s) .put)) (omega (arith, r .has w)))
 
-  pub deed-frame : (j k : ℕ) (s : State) → j ≢ k → Ready n m j s → deed n m j (fire n m k s) ≡ deed n m j s
-  unfolding deed fire
-  deed-frame j k s ne r =
+  pub deed-frame : (j k : ℕ) (s : State) → j ≢ k → Ready n m j s → Ready n m k s → deed n m j (fire n m k s) ≡ deed n m j s
+  deed-frame j k s ne r q = unfold deed deedOf in
       ap₂ (λ (x : List (Option Token)) (o : Own). deedOf n (proc n j) (ruleOf (m j)) x o)
-      (look-frame s (fire n m k s) (insOf (proc n j)) (readsOf (proc n j) (ruleOf (m j))) (λ w h. oldest-frame j k s ne r w (took-is w h)))
-      (own-other j k (deed n m k s) s ne)
-    where
-      took-is : (w : ℕ) → 1 ≤ length (onWire w (moves (insOf (proc n j)) (look s (insOf (proc n j)) (readsOf (proc n j) (ruleOf (m j))))))
-          → 1 ≤ length (onWire w ((deed n m j s) .took))
-      took-is w h = unfold deed deedOf in h
-
-  -- how a firing changes a wire's length
-  pub record Changed (k : ℕ) (s : State) (w : ℕ) : Type 0 where
-    pub most : length (queue (fire n m k s) w) + length (onWire w ((deed n m k s) .took)) ≤ length (queue s w) + length (onWire w ((deed n m k s) .put))
-    pub least : length (queue s w) ≤ length (queue (fire n m k s) w) + length (onWire w ((deed n m k s) .took))
-
-  pub changed : (k : ℕ) (s : State) → Ready n m k s → (w : ℕ) → Changed k s w
-  unfolding fire
-  changed k s r w = go (decLt w (length (s .queues)))
-    where
-      go : Dec (w < length (s .queues)) → Changed k s w
-      go (yes g) =
-          let e = simp (length-append, length-drop) at (ap length (queue-act k (deed n m k s) s w g)) in
-          record { most = omega (arith, e, r .has w); least = omega (arith, e) }
-      go (no f) =
-          let e = queue-past s w (omega (arith, f)) in
-          let e′ = queue-past (act k (deed n m k s) s) w (rw length-act (omega (arith, f))) in
-          record { most = omega (arith, ap length e, ap length e′, r .has w); least = omega (arith, ap length e) }
+      (look-frame s (fire n m k s) (insOf (proc n j)) (readsOf (proc n j) (ruleOf (m j))) (λ w h. oldest-frame j k s ne r q w h))
+      (unfold own fire act in getD-set-other (s .owns) k j _ (vars []) ne)
 
   ready-frame : (j k : ℕ) (s : State) → j ≢ k → Ready n m j s → Ready n m k s → Ready n m j (fire n m k s)
-  ready-frame j k s ne r q =
-      record {
-        has = λ w. rw (deed-frame j k s ne r) (omega (arith, changed k s q w, r .has w, q .has w, took-two j k s s w ne));
-        room = λ w. rw (deed-frame j k s ne r) (omega (arith, changed k s q w, r .room w, q .room w, put-two j k s s w ne));
-      }
+  ready-frame j k s ne r q = record {
+    shape = unfold fire in length-act k (deed n m k s) s ∙ q .shape;
+    has = λ w. rw (deed-frame j k s ne r q) (omega (arith, length-fire k s q w, r .has w, q .has w, took-two j k s w ne));
+    room = λ w. rw (deed-frame j k s ne r q) (omega (arith, length-fire k s q w, r .room w, q .room w, put-two j k s w ne));
+  }
 
-  pub fire-commute : (j k : ℕ) (s : State) → j ≢ k → Ready n m j s → Ready n m k s → fire n m j (fire n m k s) ≡ fire n m k (fire n m j s)
-  unfolding fire
-  fire-commute j k s ne r q =
-      ap (λ (d : Deed). act j d (fire n m k s)) (deed-frame j k s ne r)
-      ∙ act-commute j k (deed n m j s) (deed n m k s) s ne (λ w. omega (arith, r .has w, q .has w, took-two j k s s w ne)) (λ w. put-two j k s s w ne)
-      ∙ sym (ap (λ (d : Deed). act k d (fire n m j s)) (deed-frame k j s (λ p. ne (sym p)) q))
+  fire-commute : (j k : ℕ) (s : State) → j ≢ k → Ready n m j s → Ready n m k s → fire n m j (fire n m k s) ≡ fire n m k (fire n m j s)
+  fire-commute j k s ne r q = unfold fire in
+      ap (λ (d : Deed). act j d (fire n m k s)) (deed-frame j k s ne r q)
+      ∙ act-commute j k (deed n m j s) (deed n m k s) s ne (λ w. omega (arith, r .has w, q .has w, took-two j k s w ne)) (λ w. put-two j k s w ne)
+      ∙ sym (ap (λ (d : Deed). act k d (fire n m j s)) (deed-frame k j s (λ p. ne (sym p)) q r))
 
 -- ── any two orders ───────────────────────────────────────────────────────────────────────────
 
-pub hit-same : (v w : ℕ) → v ≡ w → hit (eqb v w) ≡ 1
-unfolding hit
-hit-same v w e = ap hit (eq-eqb v w e)
+-- the list with the first k left out
+pub remove : ℕ → List ℕ → List ℕ
+remove k [] = []
+remove k (j ∷ js) = cond (eqb j k) js (j ∷ remove k js)
 
-pub hit-other : (v w : ℕ) → v ≢ w → hit (eqb v w) ≡ 0
-unfolding hit
-hit-other v w e = ap hit (ne-eqb v w e)
+pub remove-here : (j k : ℕ) (js : List ℕ) → j ≡ k → remove k (j ∷ js) ≡ js
+remove-here j k js e = unfold remove in rw (eq-eqb j k e)
+
+pub remove-past : (j k : ℕ) (js : List ℕ) → j ≢ k → remove k (j ∷ js) ≡ j ∷ remove k js
+remove-past j k js f = unfold remove in rw (ne-eqb j k f)
 
 pub count-remove : (k : ℕ) (ks : List ℕ) → 1 ≤ count k ks → (i : ℕ) → count i ks ≡ hit (eqb k i) + count i (remove k ks)
-unfolding count remove without
+unfolding count
 count-remove k [] h i = absurd (omega arith)
-count-remove k (j ∷ js) h i = go (eqb j k) refl (λ h′. count-remove k js h′ i)
-  where
-    go : (b : Bool) → eqb j k ≡ b → (1 ≤ count k js → count i js ≡ hit (eqb k i) + count i (remove k js))
-        → hit (eqb j i) + count i js ≡ hit (eqb k i) + count i (without b j js (remove k js))
-    go true e ih = ap (λ (x : ℕ). hit (eqb x i) + count i js) (eqb-true j k e)
-    go false e ih = omega (arith, ih (omega (arith, hit-other j k (eqb-false j k e))))
+count-remove k (j ∷ js) h i =
+    same-or j k (λ e. rw (remove-here j k js e) (ap (λ (x : ℕ). hit (eqb x i) + count i js) e))
+    (λ f. rw (remove-past j k js f) (omega (arith, count-remove k js (omega (arith, h, hit-other j k f)) i)))
 
 module _ (n : Net) (m : ℕ → Mark) (one : OneEach n) where
   -- all of the list are ready, and none stands in it twice
@@ -256,27 +258,26 @@ module _ (n : Net) (m : ℕ → Mark) (one : OneEach n) where
     pub once : (k : ℕ) → count k ks ≤ 1
     pub ready : (k : ℕ) → 1 ≤ count k ks → Ready n m k s
 
+  -- the first is ready, none of the others is the first, and they are due after it
+  pub due-first : (k : ℕ) (ks : List ℕ) (s : State) → Due (k ∷ ks) s → Ready n m k s
+  due-first k ks s d = unfold count in d .ready k (omega (arith, hit-same k k refl))
+
+  pub due-other : (k : ℕ) (ks : List ℕ) (s : State) → Due (k ∷ ks) s → (j : ℕ) → 1 ≤ count j ks → (j ≢ k) × Ready n m j s
+  due-other k ks s d j h = unfold count in (λ e. absurd (omega (arith, h, d .once j, hit-same k j (sym e))), d .ready j (omega (arith, h)))
+
   pub due-next : (k : ℕ) (ks : List ℕ) (s : State) → Due (k ∷ ks) s → Due ks (fire n m k s)
-  unfolding count
-  due-next k ks s d = record {
+  due-next k ks s d = unfold count in record {
     once = λ j. omega (arith, d .once j);
-    ready = λ j h.
-        let ne : j ≢ k = λ e. absurd (omega (arith, h, d .once j, hit-same k j (sym e))) in
-        ready-frame n m one j k s ne (d .ready j (omega (arith, h))) (d .ready k (omega (arith, hit-same k k refl)));
+    ready = λ j h. (let o = due-other k ks s d j h in ready-frame n m one j k s (o .0) (o .1) (due-first k ks s d));
   }
 
   move-front : (ks : List ℕ) (k : ℕ) (s : State) → 1 ≤ count k ks → Due ks s → fireAll n m ks s ≡ fireAll n m (remove k ks) (fire n m k s)
-  unfolding count fireAll remove without
+  unfolding count fireAll
   move-front [] k s h d = absurd (omega arith)
-  move-front (j ∷ js) k s h d = go (eqb j k) refl (λ h′. move-front js k (fire n m j s) h′ (due-next j js s d))
-    where
-      go : (b : Bool) → eqb j k ≡ b → (1 ≤ count k js → fireAll n m js (fire n m j s) ≡ fireAll n m (remove k js) (fire n m k (fire n m j s)))
-          → fireAll n m js (fire n m j s) ≡ fireAll n m (without b j js (remove k js)) (fire n m k s)
-      go true e ih = ap (λ (x : ℕ). fireAll n m js (fire n m x s)) (eqb-true j k e)
-      go false e ih =
-          let ne : j ≢ k = eqb-false j k e in
-          ih (omega (arith, h, hit-other j k ne))
-          ∙ ap (fireAll n m (remove k js)) (fire-commute n m one k j s (λ p. ne (sym p)) (d .ready k h) (d .ready j (omega (arith, hit-same j j refl))))
+  move-front (j ∷ js) k s h d =
+      same-or j k (λ e. rw (remove-here j k js e) (ap (λ (x : ℕ). fireAll n m js (fire n m x s)) e))
+      (λ f. rw (remove-past j k js f) (move-front js k (fire n m j s) (omega (arith, h, hit-other j k f)) (due-next j js s d)
+      ∙ ap (fireAll n m (remove k js)) (fire-commute n m one k j s (λ p. f (sym p)) (d .ready k h) (due-first j js s d))))
 
   pub any-order : (ks ls : List ℕ) (s : State) → ((k : ℕ) → count k ks ≡ count k ls) → Due ks s → fireAll n m ks s ≡ fireAll n m ls s
   unfolding count fireAll
@@ -285,7 +286,4 @@ module _ (n : Net) (m : ℕ → Mark) (one : OneEach n) where
   any-order (k ∷ ks) ls s e d =
       let in-ls : 1 ≤ count k ls = omega (arith, e k, hit-same k k refl) in
       any-order ks (remove k ls) (fire n m k s) (λ j. omega (arith, e j, count-remove k ls in-ls j)) (due-next k ks s d)
-      ∙ sym (move-front ls k s in-ls (record {
-        once = λ j. omega (arith, e j, d .once j);
-        ready = λ j h. d .ready j (omega (arith, e j, h));
-      }))
+      ∙ sym (move-front ls k s in-ls (record { once = λ j. omega (arith, e j, d .once j); ready = λ j h. d .ready j (omega (arith, e j, h)) }))

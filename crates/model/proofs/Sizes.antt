@@ -1,25 +1,19 @@
 -- How many fields of each kind an accepted file has, and how large its state is at most.
 -- Assumes nothing.
-use mathlib.Core.Path.{_≡_, refl, sym, ap, _∙_, subst}
-use mathlib.Core.Bool.{true}
+use mathlib.Core.Path.{_≡_, refl, ap, subst}
 use mathlib.Core.List.{List, [], _∷_, _++_, map}
-use Prim.Native.Nat.{ℕ, zero, suc, _+_, _-_, _*_, _≤_, _<_}
+use Prim.Native.Nat.{ℕ, suc, _+_, _*_, _≤_, _<_}
 use native.Mathlib.Omega.{arith}
 use native.Mathlib.Nat.{mul-suc}
 use native.Mathlib.Decide.{decLt}
-use lib.Dec.{ltb, leb}
-use lib.ListN.{length, getD, length-append}
-use borrow.Author.Tests.{ltb-true, leb-true}
+use lib.ListN.{length}
+use borrow.Author.Tests.{ltb-true}
 use Rattle.model.specs.declared.Token.{Token}
-use Rattle.model.specs.Bytes.{twoAt}
-use Rattle.model.specs.Values.{inPrecision}
-use Rattle.model.specs.Expressions.{typeAt}
-use Rattle.model.specs.Network.{Wire, Proc, box, input, output, Net, noWire, nobody, proc}
-use Rattle.model.specs.NetworkFile.{Index, every, tabulate, bodyAt, wireLimits, boxLimits, outputLimits, variableStart, wiresOf, boxAt, inputAt, outputAt, netOf}
+use Rattle.model.specs.Network.{box, Net, noWire, nobody, proc}
+use Rattle.model.specs.NetworkFile.{Index, tabulate, boxAt, inputAt, outputAt, netOf}
 use Rattle.model.specs.States.{wireSize, ownSize, sum, wiresSize, stateSize}
-use Rattle.model.proofs.Tests.{and₃, and₄, and₅}
 use Rattle.model.proofs.Accepted.{Valid, wire-count, box-count, output-count}
-use Rattle.model.proofs.Decoded.{Each, each-tabulate, length-tabulate, GoodWire, GoodProc, GoodNet, box-good}
+use Rattle.model.proofs.Decoded.{Each, each-tabulate, length-tabulate, GoodProc, GoodNet, box-good}
 use Rattle.model.proofs.Lookup.{wires-length, procs-length, output-proc}
 
 -- none stands at k: there are k at most

@@ -1,10 +1,12 @@
 -- Several tests that hold together, each by itself.
 -- Assumes nothing.
 use mathlib.Core.Path.{_≡_, refl}
-use mathlib.Core.Logic.{_⊎_, inl, inr}
+use mathlib.Core.Logic.{_≢_, _⊎_, inl, inr}
 use mathlib.Core.Bool.{Bool, true, false, not, _&&_, _||_}
 use Prim.Native.Nat.{ℕ}
 use native.Mathlib.Omega.{arith}
+use lib.Dec.{eqb}
+use borrow.Author.Tests.{eqb-true, eqb-false}
 
 pub and-left : (a b : Bool) → (a && b) ≡ true → a ≡ true
 and-left true b e = refl
@@ -37,3 +39,11 @@ not-true false e = refl
 pub or-true : (a b : Bool) → (a || b) ≡ true → (a ≡ true) ⊎ (b ≡ true)
 or-true true b e = inl refl
 or-true false b e = inr e
+
+-- by cases of a test, and of two numbers, the same or not
+pub cases : {A : Type 0} (b : Bool) → (b ≡ true → A) → (b ≡ false → A) → A
+cases true f g = f refl
+cases false f g = g refl
+
+pub same-or : {A : Type 0} (v w : ℕ) → (v ≡ w → A) → (v ≢ w → A) → A
+same-or v w f g = cases (eqb v w) (λ e. f (eqb-true v w e)) (λ e. g (eqb-false v w e))

@@ -1,13 +1,13 @@
 -- What an accepted network with an accepted token file is like.
 -- Assumes nothing.
-use mathlib.Core.Path.{_≡_, refl, sym, ap, ap₂, _∙_, subst}
+use mathlib.Core.Path.{_≡_, refl, sym, ap, ap₂, _∙_}
 use mathlib.Core.Bool.{Bool, true, false, cond, _&&_}
-use mathlib.Core.List.{List, [], _∷_, _++_, map, append-nil, append-assoc}
-use Prim.Native.Nat.{ℕ, zero, suc, _+_, _-_, _*_, _≤_, _<_, _%_}
+use mathlib.Core.List.{List, [], _∷_, _++_, append-nil, append-assoc}
+use Prim.Native.Nat.{ℕ, zero, suc, _+_, _≤_, _<_, _%_}
 use native.Mathlib.Omega.{arith}
 use native.Mathlib.Decide.{decLt}
 use lib.Dec.{eqb, leb, ltb}
-use lib.ListN.{length, getD, length-map, length-append}
+use lib.ListN.{length, getD}
 use borrow.Author.Tests.{eqb-true, leb-true, ltb-true, ltb-false}
 use Rattle.model.specs.declared.Ty.{Ty}
 use Rattle.model.specs.declared.Token.{Token}
@@ -15,16 +15,15 @@ use Rattle.model.specs.declared.Field.{Field}
 use Rattle.model.specs.declared.Field.the-variants.{At, Cut}
 use Rattle.model.specs.Bytes.{twoAt, stretch}
 use Rattle.model.specs.Values.{noType}
-use Rattle.model.specs.Network.{Wire, Box, Proc, box, input, output, Net, wire, proc, nobody, noWire, insOf, outsOf}
-use Rattle.model.specs.NetworkFile.{Index, fieldAt, Verdict, good, refuse, next, orRefuse, tabulate, inputForm, outputForm, outputLimits, bodyAt, wireOf, wiresOf, boxAt, inputAt, outputAt, netOf, fields, hit, count, ports, portsFit, lowestFrom, oddWire, portsOf, network}
+use Rattle.model.specs.Network.{Box, Proc, box, input, output, Net, wire, nobody, noWire, insOf, outsOf}
+use Rattle.model.specs.NetworkFile.{Index, fieldAt, Verdict, good, refuse, next, orRefuse, tabulate, inputForm, outputForm, outputLimits, bodyAt, wireOf, wiresOf, boxAt, inputAt, outputAt, netOf, fields, count, ports, portsFit, lowestFrom, oddWire, portsOf, network}
 use Rattle.model.specs.States.{tokensFit, tokenField, tokensIn, inputTokens, tokensFrom, tokenFile, inputTypes}
 use Rattle.model.specs.Calls.{tokened, withTokens}
-use Rattle.model.proofs.Tests.{and-left, and-right, and₂, and₃}
-use Rattle.model.proofs.Wires.{count-append}
-use Rattle.model.proofs.Order.{OneEach, hit-same, hit-other}
-use Rattle.model.proofs.Accepted.{InFile, WireField, InputField, OutputField, Valid, fields-valid}
+use Rattle.model.proofs.Tests.{and₂, and₃}
+use Rattle.model.proofs.Order.{OneEach, count-append, hit-other}
+use Rattle.model.proofs.Accepted.{Valid, fields-valid}
 use Rattle.model.proofs.Lookup.{wires-length}
-use Rattle.model.proofs.Decoded.{getD-map-lt, Each, each-append, each-tabulate, length-tabulate, getD-tabulate, length-body, body-at, wire-good, box-good, GoodWire, GoodProc, GoodNet}
+use Rattle.model.proofs.Decoded.{getD-map-lt, Each, each-append, each-tabulate, length-tabulate, getD-tabulate, body-at, wire-good, box-good, GoodProc, GoodNet}
 
 -- ── verdicts ─────────────────────────────────────────────────────────────────────────────────
 

@@ -1,6 +1,6 @@
 -- The workbook's examples, P1 to P12, and an example of each refusal number: computed from the definitions, on bytes.
 -- Assumes nothing.
-use Prim.Native.Nat.{ℕ, zero, suc, _+_}
+use Prim.Native.Nat.{ℕ, zero, suc}
 use mathlib.Core.Path.{_≡_, refl}
 use mathlib.Core.List.{List, [], _∷_, _++_, map}
 use lib.ListN.{replicate}
@@ -9,9 +9,8 @@ use Rattle.model.specs.declared.Ty.{Ty}
 use Rattle.model.specs.declared.Outcome.{Outcome}
 use Rattle.model.specs.declared.Outcome.the-variants.{Value, Fault}
 use Rattle.model.specs.Bytes.{valueBytes}
-use Rattle.model.specs.Values.{bool}
 use Rattle.model.specs.Expressions.{Read, bad, got, Exp, expression, valueOf}
-use Rattle.model.specs.Calls.{Answer, accepted, loaded-with, marks, done, idle, spent, written, refused, After, checkCall, loadCall, markCall, cycleCall, runCall, writeCall}
+use Rattle.model.specs.Calls.{Answer, marks, idle, spent, refused, checkCall, loadCall, markCall, cycleCall, runCall, writeCall}
 use Rattle.model.specs.Printing.{printed}
 use Rattle.model.specs.Opened.{opened}
 

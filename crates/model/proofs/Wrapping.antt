@@ -1,21 +1,20 @@
 -- Wrapping, once over the precision p: a wrapped value is of its type, and a value of its type wraps to itself.
 -- Assumes nothing.
-use mathlib.Core.Path.{_≡_, refl, sym, ap, _∙_}
+use mathlib.Core.Path.{_≡_, refl, ap, _∙_}
 use mathlib.Core.Bool.{Bool, true, false, cond, _&&_}
-use mathlib.Core.List.{List, [], _∷_}
-use Prim.Native.Nat.{ℕ, zero, suc, _+_, _-_, _*_, _/_, _%_, _^_, _≤_, _<_}
+use Prim.Native.Nat.{ℕ, zero, suc, _-_, _*_, _^_, _≤_, _<_}
 use native.Mathlib.Nat.{mod-lt, mod-eq-of-lt, pow-suc}
 use native.Mathlib.Omega.{arith}
 use native.Mathlib.Numerals.{sub-one}
-use lib.Dec.{leb, ltb, eqb, lit<, lit≤}
+use lib.Dec.{leb, ltb, eqb, lit<}
 use lib.IntN.{ℤ, pos, negsuc, negℤ, _-ℤ_}
 use lib.Signed.{mag, leZ}
 use lib.Pow.{pow-pos, pow-mono}
-use borrow.Author.Tests.{lt-ltb, le-ltb, le-leb, ltb-true, ltb-false, leb-true, leb-false}
+use borrow.Author.Tests.{lt-ltb, le-ltb, le-leb, ltb-true, ltb-false, leb-true}
 use Rattle.model.specs.declared.Ty.{Ty}
 use Rattle.model.specs.Bytes.{modZ, signedOf, fourAt, valueAt, fourBytes, valueBytes}
 use Rattle.model.specs.Values.{least, greatest, within, pattern, readBack, wrap}
-use Rattle.model.proofs.Tests.{and-left, and-right}
+use Rattle.model.proofs.Tests.{and-left, and-right, cases}
 
 -- ── powers ───────────────────────────────────────────────────────────────────────────────────
 
@@ -31,8 +30,7 @@ modZ-lt (pos a) m h = mod-lt a h
 modZ-lt (negsuc a) m h = omega arith
 
 pub pattern-lt : (t : Ty) (z : ℤ) → pattern t z < 2 ^ t .p
-unfolding pattern
-pattern-lt t z = modZ-lt z (2 ^ t .p) (pow-pos (t .p))
+pattern-lt t z = unfold pattern in modZ-lt z (2 ^ t .p) (pow-pos (t .p))
 
 -- ── a pattern read back ──────────────────────────────────────────────────────────────────────
 
@@ -49,63 +47,34 @@ half-in b n (suc k) zero l e t = absurd (omega arith)
 half-in true n (suc k) (suc j) l e t = le-leb n (suc k - 1) (omega (arith, ltb-true n (suc k) t))
 half-in false n (suc k) (suc j) l e t = rw (lt-ltb n (suc j) l, le-leb (suc j - suc n) k (omega (arith, ltb-false n (suc k) t)))
 
-half-mod : (b : Bool) (n m : ℕ) → n < m → modZ (half-less b n m) m ≡ n
-unfolding modZ
-half-mod b n zero l = absurd (omega arith)
-half-mod true n (suc j) l = mod-eq-of-lt l
-half-mod false n (suc j) l = rw (lt-ltb n (suc j) l) (rw (mod-eq-of-lt {n = suc j - suc n} {m = suc j} (omega arith)) (omega arith))
-
 half-mag : (b : Bool) (n m : ℕ) → n < m → mag (half-less b n m) < m
 half-mag b n zero l = absurd (omega arith)
 half-mag true n (suc j) l = l
 half-mag false n (suc j) l = rw (lt-ltb n (suc j) l) (omega arith)
 
 -- by the kind: signed or not
-read-in : (b : Bool) (t : Ty) (n : ℕ) → eqb (t .kind) 1 ≡ b → 1 ≤ t .p → n < 2 ^ t .p → within t (readBack t n) ≡ true
-unfolding within readBack signedOf least greatest
-read-in true t n e h l = rw (e) (half-in (ltb n (2 ^ (t .p - 1))) n (2 ^ (t .p - 1)) (2 ^ t .p) l (pow-half (t .p) h) refl)
-read-in false t n e h l = rw (e, le-leb 0 n (omega arith), le-leb n (2 ^ t .p - 1) (omega arith))
-
 pub read-within : (t : Ty) (n : ℕ) → 1 ≤ t .p → n < 2 ^ t .p → within t (readBack t n) ≡ true
-read-within t n h l = read-in (eqb (t .kind) 1) t n refl h l
-
-read-mod : (b : Bool) (t : Ty) (n : ℕ) → eqb (t .kind) 1 ≡ b → n < 2 ^ t .p → pattern t (readBack t n) ≡ n
-unfolding pattern readBack signedOf
-read-mod true t n e l = rw e (half-mod (ltb n (2 ^ (t .p - 1))) n (2 ^ t .p) l)
-read-mod false t n e l = rw e (half-mod true n (2 ^ t .p) l)
-
-pub pattern-read : (t : Ty) (n : ℕ) → n < 2 ^ t .p → pattern t (readBack t n) ≡ n
-pattern-read t n l = read-mod (eqb (t .kind) 1) t n refl l
-
-read-small : (b : Bool) (t : Ty) (n : ℕ) → eqb (t .kind) 1 ≡ b → n < 2 ^ t .p → mag (readBack t n) < 2 ^ t .p
-unfolding readBack signedOf
-read-small true t n e l = rw e (half-mag (ltb n (2 ^ (t .p - 1))) n (2 ^ t .p) l)
-read-small false t n e l = rw e l
+read-within t n h l = unfold within readBack signedOf least greatest in
+    cases (eqb (t .kind) 1) (λ e. rw e (half-in (ltb n (2 ^ (t .p - 1))) n (2 ^ (t .p - 1)) (2 ^ t .p) l (pow-half (t .p) h) refl))
+    (λ e. rw (e, le-leb 0 n (omega arith), le-leb n (2 ^ t .p - 1) (omega arith)))
 
 pub read-mag : (t : Ty) (n : ℕ) → n < 2 ^ t .p → mag (readBack t n) < 2 ^ t .p
-read-mag t n l = read-small (eqb (t .kind) 1) t n refl l
+read-mag t n l = unfold readBack signedOf in cases (eqb (t .kind) 1) (λ e. rw e (half-mag (ltb n (2 ^ (t .p - 1))) n (2 ^ t .p) l)) (λ e. rw e l)
 
 -- ── wrapping ─────────────────────────────────────────────────────────────────────────────────
 
 pub wrap-within : (t : Ty) (z : ℤ) → 1 ≤ t .p → within t (wrap t z) ≡ true
-unfolding wrap
-wrap-within t z h = read-within t (pattern t z) h (pattern-lt t z)
+wrap-within t z h = unfold wrap in read-within t (pattern t z) h (pattern-lt t z)
 
 pub wrap-mag : (t : Ty) (z : ℤ) → mag (wrap t z) < 2 ^ t .p
-unfolding wrap
-wrap-mag t z = read-mag t (pattern t z) (pattern-lt t z)
-
-pub wrap-wrap : (t : Ty) (z : ℤ) → wrap t (wrap t z) ≡ wrap t z
-unfolding wrap
-wrap-wrap t z = ap (readBack t) (pattern-read t (pattern t z) (pattern-lt t z))
+wrap-mag t z = unfold wrap in read-mag t (pattern t z) (pattern-lt t z)
 
 -- a value between -h and h - 1, back from its remainder modulo m
 signed-back : (z : ℤ) (h m : ℕ) → 0 < h → m ≡ 2 * h → between h z ≡ true → half-less (ltb (modZ z m) h) (modZ z m) m ≡ z
 unfolding modZ
-signed-back (pos n) zero m g e w = absurd (omega arith)
-signed-back (pos n) (suc k) m g e w =
-    let l : n ≤ suc k - 1 = leb-true n (suc k - 1) w in
-    rw (mod-eq-of-lt {n = n} {m = m} (omega arith), lt-ltb n (suc k) (omega arith))
+signed-back (pos n) h m g e w =
+    let l : n ≤ h - 1 = leb-true n (h - 1) (and-right (leZ (negℤ (pos h)) (pos n)) (leb n (h - 1)) w) in
+    rw (mod-eq-of-lt {n = n} {m = m} (omega arith), lt-ltb n h (omega arith))
 signed-back (negsuc n) zero m g e w = absurd (omega arith)
 signed-back (negsuc n) (suc k) zero g e w = absurd (omega arith)
 signed-back (negsuc n) (suc k) (suc j) g e w =
@@ -117,13 +86,10 @@ unfolding modZ
 plain-back (pos n) m h w = ap pos (mod-eq-of-lt (omega (arith, leb-true n (m - 1) (and-right (leb 0 n) (leb n (m - 1)) w))))
 plain-back (negsuc n) m h w = absurd (let z : _≡_ {A = ℕ} 0 1 = cc in omega arith)
 
-wrap-by : (b : Bool) (t : Ty) (z : ℤ) → eqb (t .kind) 1 ≡ b → 1 ≤ t .p → within t z ≡ true → wrap t z ≡ z
-unfolding wrap within pattern readBack signedOf least greatest
-wrap-by true t z e h w = rw e (signed-back z (2 ^ (t .p - 1)) (2 ^ t .p) (pow-pos (t .p - 1)) (pow-half (t .p) h) (rw e at w))
-wrap-by false t z e h w = rw e (plain-back z (2 ^ t .p) (pow-pos (t .p)) (rw e at w))
-
 pub wrap-id : (t : Ty) (z : ℤ) → 1 ≤ t .p → within t z ≡ true → wrap t z ≡ z
-wrap-id t z h w = wrap-by (eqb (t .kind) 1) t z refl h w
+wrap-id t z h w = unfold wrap within pattern readBack signedOf least greatest in
+    cases (eqb (t .kind) 1) (λ e. rw e (signed-back z (2 ^ (t .p - 1)) (2 ^ t .p) (pow-pos (t .p - 1)) (pow-half (t .p) h) (rw e at w)))
+    (λ e. rw e (plain-back z (2 ^ t .p) (pow-pos (t .p)) (rw e at w)))
 
 pub within-mag : (t : Ty) (z : ℤ) → 1 ≤ t .p → within t z ≡ true → mag z < 2 ^ t .p
 within-mag t z h w = rw (wrap-id t z h w) at (wrap-mag t z)
@@ -133,21 +99,8 @@ pow-30 h = pow-mono h
 
 -- ── four bytes ───────────────────────────────────────────────────────────────────────────────
 
--- the type of a four-byte value
-int : Ty
-int = record { kind = 1; p = 32 }
-
-pub signed-32-mag : (n : ℕ) → n < 4294967296 → mag (signedOf 32 n) < 2147483648
-unfolding signedOf
-signed-32-mag n l = go (ltb n 2147483648) refl
-  where
-    go : (b : Bool) → ltb n 2147483648 ≡ b → mag (half-less b n 4294967296) < 2147483648
-    go true e = ltb-true n 2147483648 e
-    go false e = rw (lt-ltb n 4294967296 l) (omega (arith, ltb-false n 2147483648 e))
-
 four-bytes : (n : ℕ) → n < 4294967296 → fourAt (fourBytes n) 0 ≡ n
-unfolding fourAt fourBytes
-four-bytes n l = omega arith
+four-bytes n l = unfold fourAt fourBytes in omega arith
 
 mag-between : (z : ℤ) → mag z < 2147483648 → between 2147483648 z ≡ true
 mag-between (pos n) l = le-leb n 2147483647 (omega arith)

@@ -11,7 +11,7 @@ use Rattle.model.specs.declared.Token.{Token}
 use Rattle.model.specs.Network.{Net, State, capacity, queue, loaded}
 use Rattle.model.specs.NetworkFile.{count, good}
 use Rattle.model.specs.Calls.{withTokens}
-use Rattle.model.specs.States.{bytesOf}
+use Rattle.model.specs.States.{bytesOf, stateFits, stateIn}
 use Rattle.model.specs.Cycles.{Move, Deed, Mark, deed, mark, fire, fireAll, cycleIn, markedOf, finding, broken}
 
 -- a token before others, where it counts
@@ -75,3 +75,12 @@ pub record AnyOrder (n : Net) : Type 0 where
 -- demand 3: of every accepted network with an accepted token file
 unfoldable pub Demand3 : Type 0
 Demand3 = (s ts : List ℕ) (n : Net) → withTokens s ts ≡ good n → AnyOrder n
+
+-- the bytes of a state, whatever stands behind them, give the state back, and a saved state of these bytes is accepted
+pub record Back (n : Net) (s : State) (rest : List ℕ) : Type 0 where
+  pub state : stateIn n (bytesOf n s ++ rest) ≡ s
+  pub accepted : stateFits n true (bytesOf n s ++ rest) ≡ true
+
+-- the round trip: so it is with every state reached from a load
+unfoldable pub RoundTrip : Type 0
+RoundTrip = (s ts : List ℕ) (n : Net) → withTokens s ts ≡ good n → (at : State) (ds : List Deed) (rest : List ℕ) → Reached n at ds → Back n at rest

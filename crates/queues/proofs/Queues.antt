@@ -5,41 +5,29 @@ use mathlib.Core.Path.{_≡_, refl, sym, ap, ap₂, _∙_}
 use mathlib.Core.List.{List, [], _∷_, _++_, append-assoc, append-nil}
 use native.Mathlib.Omega.{arith}
 use lib.IntN.{ℤ, pos}
-use lib.ListN.{length, getD, take, drop, set, replicate, length-append, length-set, length-replicate, replicate-append-replicate}
+use lib.ListN.{length, getD, take, drop, set, replicate, length-append, length-set, replicate-append-replicate}
 use lib.Seq.{take-at, drop-at}
 use Rattle.model.specs.declared.Token.{Token}
 use Rattle.model.specs.Bytes.{twoAt, twoBytes, valueAt, valueBytes}
-use Rattle.model.specs.Network.{Wire, Box, Proc, box, input, output, Own, vars, taken, got, varsOf, takenOf, gotOf}
+use Rattle.model.specs.Network.{Wire, Box, Proc, box, input, output, Own, vars, taken, got, varsOf, takenOf, gotOf, noToken}
 use Rattle.model.specs.States.{tokenBytes, tokensBytes, roomBytes, wireBytes, valuesBytes, ownBytes, wireSize, ownSize}
+use Rattle.model.proofs.Decoded.{Each, each-append}
+pub use Rattle.model.proofs.Kept.{length-tokens, length-room, length-values}
 use Rattle.octets.proofs.Laws.{two-back, value-back, value-drop, length-two, length-value, length-token}
 use Rattle.queues.specs.Segments.{putMid}
 use Rattle.queues.specs.Queues.{WireRoom, WireHeld, GotRoom, pushBytes, popBytes, gotBytes, moved}
-use Rattle.queues.specs.Sound.{Each, none, more, Small, Sane, Held, Kept, ofBox, ofInput, ofOutput}
+use Rattle.queues.specs.Sound.{Small, Sane, Held, Kept, ofBox, ofInput, ofOutput}
 use Rattle.queues.proofs.Segments.{put-after}
 
 -- ── lengths ──────────────────────────────────────────────────────────────────────────────────
-
-pub length-tokens : (ts : List Token) → length (tokensBytes ts) ≡ 5 * length ts
-unfolding tokensBytes
-length-tokens [] = refl
-length-tokens (t ∷ ts) = length-append (tokenBytes t) (tokensBytes ts) ∙ omega (arith, length-token t, length-tokens ts)
 
 pub tokens-rest : (t : Token) (q : List Token) → drop 5 (tokensBytes (t ∷ q)) ≡ tokensBytes q
 unfolding tokensBytes
 tokens-rest t q = drop-at (tokenBytes t) (tokensBytes q) 5 (length-token t)
 
-pub length-room : (room : ℕ) (ts : List Token) → length ts ≤ room → length (roomBytes room ts) ≡ 5 * room
-unfolding roomBytes
-length-room room ts h = length-append (tokensBytes ts) (replicate ((room - length ts) * 5) 0) ∙ omega (arith, length-tokens ts, length-replicate {A = ℕ} ((room - length ts) * 5) 0)
-
 pub length-wire : (w : Wire) (q : List Token) → length q ≤ w .capacity → length (wireBytes w q) ≡ wireSize w
 unfolding wireBytes wireSize
 length-wire w q h = omega (arith, length-room (w .capacity) q h)
-
-pub length-values : (zs : List ℤ) → length (valuesBytes zs) ≡ 4 * length zs
-unfolding valuesBytes
-length-values [] = refl
-length-values (z ∷ zs) = length-append (valueBytes z) (valuesBytes zs) ∙ omega (arith, length-value z, length-values zs)
 
 pub length-own : {p : Proc} {o : Own} → Kept p o → length (ownBytes p o) ≡ ownSize p
 unfolding ownBytes ownSize varsOf takenOf gotOf
@@ -133,15 +121,15 @@ pub taken-put : (w k m : ℕ) (ts : List Token) → twoBytes m ++ drop 2 (ownByt
 unfolding ownBytes takenOf twoBytes
 taken-put w k m ts = refl
 
-pub var-read : {zs : List ℤ} → Each Small zs → (j : ℕ) (rest : List ℕ) → j < length zs → valueAt (valuesBytes zs ++ rest) (4 * j) ≡ getD zs j (pos 0)
+pub var-read : (zs : List ℤ) → Each Small (pos 0) zs → (j : ℕ) (rest : List ℕ) → j < length zs → valueAt (valuesBytes zs ++ rest) (4 * j) ≡ getD zs j (pos 0)
 unfolding valuesBytes
-var-read none j rest h = absurd (omega arith)
-var-read (more {x = z} {xs = zs} s ss) zero rest h = rw (append-assoc (valueBytes z) (valuesBytes zs) rest) (value-back z (valuesBytes zs ++ rest) (s .value))
-var-read (more {x = z} {xs = zs} s ss) (suc j) rest h =
+var-read [] s j rest h = absurd (omega arith)
+var-read (z ∷ zs) s zero rest h = rw (append-assoc (valueBytes z) (valuesBytes zs) rest) (value-back z (valuesBytes zs ++ rest) ((s 0 h) .value))
+var-read (z ∷ zs) s (suc j) rest h =
     let e : 4 * suc j ≡ 4 + 4 * j = omega arith in
     let r : List ℕ = valuesBytes zs ++ rest in
     rw (append-assoc (valueBytes z) (valuesBytes zs) rest, e)
-    (sym (value-drop 4 (valueBytes z ++ r) (4 * j)) ∙ ap (λ (l : List ℕ). valueAt l (4 * j)) (drop-at (valueBytes z) r 4 (length-value z)) ∙ var-read ss j rest (omega arith))
+    (sym (value-drop 4 (valueBytes z ++ r) (4 * j)) ∙ ap (λ (l : List ℕ). valueAt l (4 * j)) (drop-at (valueBytes z) r 4 (length-value z)) ∙ var-read zs (λ k m. s (suc k) (omega (arith, m))) j rest (omega arith))
 
 values-put : (zs : List ℤ) (j : ℕ) (z : ℤ) → j < length zs → putMid (4 * j) 4 (valuesBytes zs) (valueBytes z) ≡ valuesBytes (set zs j z)
 unfolding valuesBytes
@@ -152,9 +140,9 @@ values-put (y ∷ zs) (suc j) z h =
     ap (λ (n : ℕ). putMid n 4 (valueBytes y ++ valuesBytes zs) (valueBytes z)) e
     ∙ put-after (valueBytes y) (valuesBytes zs) (valueBytes z) 4 (4 * j) 4 (length-value y) ∙ ap (λ (l : List ℕ). valueBytes y ++ l) (values-put zs j z (omega arith))
 
-pub box-var : (b : Box) {zs : List ℤ} → Each Small zs → (j : ℕ) → j < length zs → valueAt (ownBytes (box b) (vars zs)) (4 * j) ≡ getD zs j (pos 0)
+pub box-var : (b : Box) (zs : List ℤ) → Each Small (pos 0) zs → (j : ℕ) → j < length zs → valueAt (ownBytes (box b) (vars zs)) (4 * j) ≡ getD zs j (pos 0)
 unfolding ownBytes varsOf
-box-var b {zs} s j h = ap (λ (l : List ℕ). valueAt l (4 * j)) (sym (append-nil (valuesBytes zs))) ∙ var-read s j [] h
+box-var b zs s j h = ap (λ (l : List ℕ). valueAt l (4 * j)) (sym (append-nil (valuesBytes zs))) ∙ var-read zs s j [] h
 
 pub box-put : (b : Box) (zs : List ℤ) (j : ℕ) (z : ℤ) → j < length zs → putMid (4 * j) 4 (ownBytes (box b) (vars zs)) (valueBytes z) ≡ ownBytes (box b) (vars (set zs j z))
 unfolding ownBytes varsOf
@@ -176,31 +164,28 @@ output-empty w room = let e : 2 + 5 * room ≡ suc (suc ((room - 0) * 5)) = omeg
 
 -- ── what is kept ─────────────────────────────────────────────────────────────────────────────
 
-pub each-snoc : {A : Type 0} {P : A → Type 0} {xs : List A} {x : A} → Each P xs → P x → Each P (xs ++ (x ∷ []))
-each-snoc none p = more p none
-each-snoc (more q qs) p = more q (each-snoc qs p)
+pub each-snoc : {A : Type 0} (P : A → Type 0) (d : A) (xs : List A) (x : A) → Each P d xs → P x → Each P d (xs ++ (x ∷ []))
+each-snoc P d xs x h p = each-append P d xs (x ∷ []) h last
+  where
+    last : (k : ℕ) → k < 1 → P (getD (x ∷ []) k d)
+    last zero l = p
+    last (suc k) l = absurd (omega (arith, l))
 
-pub each-set : {A : Type 0} {P : A → Type 0} {xs : List A} {x : A} → Each P xs → (i : ℕ) → P x → Each P (set xs i x)
-each-set none i p = none
-each-set (more q qs) zero p = more p qs
-each-set (more q qs) (suc i) p = more q (each-set qs i p)
-
-pub each-at : {A : Type 0} {P : A → Type 0} {xs : List A} → Each P xs → (i : ℕ) (d : A) → i < length xs → P (getD xs i d)
-each-at none i d h = absurd (omega arith)
-each-at (more q qs) zero d h = q
-each-at (more q qs) (suc i) d h = each-at qs i d (omega arith)
+pub each-set : {A : Type 0} (P : A → Type 0) (d : A) (xs : List A) (i : ℕ) (x : A) → Each P d xs → P x → Each P d (set xs i x)
+each-set P d [] i x h p k l = absurd (omega arith)
+each-set P d (y ∷ ys) zero x h p zero l = p
+each-set P d (y ∷ ys) zero x h p (suc k) l = h (suc k) l
+each-set P d (y ∷ ys) (suc i) x h p zero l = h 0 (omega arith)
+each-set P d (y ∷ ys) (suc i) x h p (suc k) l = each-set P d ys i x (λ j m. h (suc j) (omega (arith, m))) p k (omega arith)
 
 pub held-push : {w : Wire} {q : List Token} {t : Token} → Held w q → length q < w .capacity → Sane t → Held w (q ++ (t ∷ []))
-held-push {q = q} {t = t} h l s = record { fits = omega (arith, length-snoc q t); sane = each-snoc (h .sane) s }
+held-push {q = q} {t = t} h l s = record { fits = omega (arith, length-snoc q t); sane = each-snoc Sane noToken q t (h .sane) s }
 
 pub held-pop : {w : Wire} {q : List Token} {t : Token} → Held w (t ∷ q) → Held w q
-held-pop h = record { fits = omega arith; sane = tail (h .sane) }
-  where
-    tail : {q : List Token} {t : Token} → Each Sane (t ∷ q) → Each Sane q
-    tail (more s ss) = ss
+held-pop h = record { fits = omega arith; sane = λ k l. h .sane (suc k) (omega (arith, l)) }
 
-pub kept-push : {w room : ℕ} {ts : List Token} {t : Token} → Each Sane ts → length ts < room → Sane t → Kept (output w room) (got (ts ++ (t ∷ [])))
-kept-push {room = room} {ts = ts} {t = t} h l s = let k : length (ts ++ (t ∷ [])) ≤ room = omega (arith, length-snoc ts t) in ofOutput k (each-snoc h s)
+pub kept-push : {w room : ℕ} (ts : List Token) {t : Token} → Each Sane noToken ts → length ts < room → Sane t → Kept (output w room) (got (ts ++ (t ∷ [])))
+kept-push {room = room} ts {t = t} h l s = let k : length (ts ++ (t ∷ [])) ≤ room = omega (arith, length-snoc ts t) in ofOutput k (each-snoc Sane noToken ts t h s)
 
-pub kept-var : {b : Box} {zs : List ℤ} {z : ℤ} → length zs ≡ length (b .vars) → Each Small zs → (j : ℕ) → Small z → Kept (box b) (vars (set zs j z))
-kept-var {zs = zs} {z = z} e h j s = ofBox (length-set zs j z ∙ e) (each-set h j s)
+pub kept-var : {b : Box} (zs : List ℤ) {z : ℤ} → length zs ≡ length (b .vars) → Each Small (pos 0) zs → (j : ℕ) → Small z → Kept (box b) (vars (set zs j z))
+kept-var zs {z = z} e h j s = ofBox (length-set zs j z ∙ e) (each-set Small (pos 0) zs j z h s)

@@ -1,32 +1,30 @@
 -- Reading back: the layout of a queue gives the queue, and bytes that fit are the layout of the one queue that they hold.
 -- Assumes nothing.
-use Prim.Native.Nat.{ℕ, zero, suc, _+_, _-_, _*_, _^_, _≤_, _<_}
+use Prim.Native.Nat.{ℕ, zero, suc, _+_, _-_, _*_, _≤_, _<_}
 use mathlib.Core.Path.{_≡_, refl, sym, ap, ap₂, _∙_}
-use mathlib.Core.Bool.{Bool, true, false, _&&_, _||_, cond}
-use mathlib.Core.List.{List, [], _∷_, _++_, append-assoc, append-nil}
+use mathlib.Core.Bool.{Bool, true, _&&_, _||_, cond}
+use mathlib.Core.List.{List, [], _∷_, _++_, append-assoc}
 use native.Mathlib.Omega.{arith}
 use lib.Dec.{leb, eqb}
-use lib.IntN.{ℤ, pos, negsuc, negℤ}
-use lib.Pow.{pow-mono}
-use lib.Signed.{mag, leZ}
+use lib.IntN.{pos}
+use lib.Signed.{mag}
 use lib.ListN.{length, getD, take, drop, replicate, length-drop, take-append-drop}
-use lib.Seq.{drop-at, take-all, take-add, getD-drop}
+use lib.Seq.{take-all, take-add, getD-drop}
 use borrow.Author.Tests.{leb-true, eqb-true}
 use Rattle.model.specs.declared.Ty.{Ty}
 use Rattle.model.specs.declared.Token.{Token}
-use Rattle.model.specs.Bytes.{twoAt, twoBytes, valueAt, valueBytes}
-use Rattle.model.specs.Values.{isDc, least, greatest, within, carried, eqZ}
+use Rattle.model.specs.Bytes.{twoAt, twoBytes, valueBytes}
+use Rattle.model.specs.Values.{within, carried, eqZ}
 use Rattle.model.specs.Rules.{tagFits}
-use Rattle.model.specs.Network.{Wire, Variable, Proc, box, input, output, Net, Own, vars, taken, got, wire, varsOf, takenOf, gotOf}
+use Rattle.model.specs.Network.{Wire, Variable, Proc, box, input, output, Net, vars, wire, varsOf, takenOf, gotOf, noToken}
 use Rattle.model.specs.States.{tokenAt, readTokens, tokenBytes, tokensBytes, tokenFits, tokensFit, roomBytes, wireBytes, valuesBytes, ownBytes, wireSize, ownSize, allZero, roomFits, wireFits, queueIn, valuesIn, ownFits, ownIn}
 use Rattle.model.proofs.Tests.{and-left, and-right}
-use Rattle.octets.proofs.Laws.{Octets, two-back, two-take, value-back, value-take, value-drop, value-below, length-two, length-value, length-token}
-use Rattle.queues.specs.Sound.{Each, none, more, Small, Sane, Held, Kept, ofBox, ofInput, ofOutput}
+use Rattle.model.proofs.Decoded.{Each, GoodType}
+use Rattle.model.proofs.Kept.{token-small, token-back}
+use Rattle.octets.proofs.Laws.{Octets, two-take, value-take, value-drop, value-below}
+use Rattle.queues.specs.Sound.{Small, Sane, Held, Kept, ofBox, ofInput, ofOutput}
 
--- ── tests ────────────────────────────────────────────────────────────────────────────────────
-
-clash : false ≡ true → ⊥
-clash e = let z : _≡_ {A = ℕ} 0 1 = cc in omega arith
+-- ── bytes ────────────────────────────────────────────────────────────────────────────────────
 
 pub octets-drop : (k : ℕ) (s : List ℕ) → Octets s → Octets (drop k s)
 octets-drop k s b i = rw (getD-drop k s i 0) (b (k + i))
@@ -38,21 +36,6 @@ octets-take (suc k) (x ∷ s) b zero = b 0
 octets-take (suc k) (x ∷ s) b (suc i) = octets-take k s (λ j. b (suc j)) i
 
 -- ── tokens ───────────────────────────────────────────────────────────────────────────────────
-
-pub token-back : (t : Token) (rest : List ℕ) → Sane t → tokenAt (tokenBytes t ++ rest) ≡ t
-unfolding tokenAt tokenBytes
-token-back t rest h =
-    let s : List ℕ = valueBytes (t .value) ++ rest in
-    let e : valueAt (t .tag ∷ s) 1 ≡ t .value = sym (value-drop 1 (t .tag ∷ s) 0) ∙ value-back (t .value) rest (h .value) in
-    λ i. record { tag = t .tag; value = e i }
-
-pub tokens-back : {ts : List Token} → Each Sane ts → (rest : List ℕ) → readTokens (length ts) (tokensBytes ts ++ rest) ≡ ts
-unfolding readTokens tokensBytes
-tokens-back none rest = refl
-tokens-back (more {x = t} {xs = ts} h hs) rest =
-    let r : List ℕ = tokensBytes ts ++ rest in
-    rw (append-assoc (tokenBytes t) (tokensBytes ts) rest)
-    (ap₂ (λ (x : Token) (xs : List Token). x ∷ xs) (token-back t r h) (ap (readTokens (length ts)) (drop-at (tokenBytes t) r 5 (length-token t)) ∙ tokens-back hs rest))
 
 pub token-take : (s : List ℕ) → Octets s → 5 ≤ length s → tokenBytes (tokenAt s) ≡ take 5 s
 unfolding tokenAt tokenBytes
@@ -83,59 +66,17 @@ unfolding tokenAt
 read-small s b = value-below s 1 b
 
 -- tokens read from bytes, each of a type
-pub tokens-sane : (ty : Ty) (k : ℕ) (s : List ℕ) → Octets s → tokensFit ty (readTokens k s) ≡ true → Each Sane (readTokens k s)
+pub tokens-sane : (ty : Ty) (k : ℕ) (s : List ℕ) → Octets s → tokensFit ty (readTokens k s) ≡ true → Each Sane noToken (readTokens k s)
 unfolding readTokens tokensFit
-tokens-sane ty zero s b e = none
-tokens-sane ty (suc k) s b e =
+tokens-sane ty zero s b e i h = absurd (omega arith)
+tokens-sane ty (suc k) s b e zero h =
     let t = tokenAt s in
-    more (record { tag = fit-tag ty t (and-left (tokenFits ty t) (tokensFit ty (readTokens k (drop 5 s))) e); value = read-small s b })
-    (tokens-sane ty k (drop 5 s) (octets-drop 5 s b) (and-right (tokenFits ty t) (tokensFit ty (readTokens k (drop 5 s))) e))
-
--- ── what a type holds, four bytes hold ───────────────────────────────────────────────────────
-
-pub within-small : (ty : Ty) (z : ℤ) → ty .p ≤ 30 → within ty z ≡ true → mag z < 2147483648
-unfolding within least greatest
-within-small ty z h e = go (eqb (ty .kind) 1) z e
-  where
-    low : (m n : ℕ) → leZ (negℤ (pos m)) (negsuc n) ≡ true → n < m
-    low zero n e = let f : false ≡ true = e in absurd (clash f)
-    low (suc m) n e = omega (arith, leb-true n m e)
-
-    go : (k : Bool) (z : ℤ) → (leZ (cond k (negℤ (pos (2 ^ (ty .p - 1)))) (pos 0)) z && leZ z (pos (cond k (2 ^ (ty .p - 1)) (2 ^ ty .p) - 1))) ≡ true → mag z < 2147483648
-    go true (pos n) e =
-        let a = and-right (leZ (negℤ (pos (2 ^ (ty .p - 1)))) (pos n)) (leb n (2 ^ (ty .p - 1) - 1)) e in
-        omega (arith, leb-true n (2 ^ (ty .p - 1) - 1) a, pow-mono {i = ty .p - 1} {j = 30} (omega arith))
-    go false (pos n) e =
-        let a = and-right (leb 0 n) (leb n (2 ^ ty .p - 1)) e in
-        omega (arith, leb-true n (2 ^ ty .p - 1) a, pow-mono {i = ty .p} {j = 30} h)
-    go true (negsuc n) e =
-        let a = and-left (leZ (negℤ (pos (2 ^ (ty .p - 1)))) (negsuc n)) true e in
-        omega (arith, low (2 ^ (ty .p - 1)) n a, pow-mono {i = ty .p - 1} {j = 30} (omega arith))
-    go false (negsuc n) e = absurd (clash e)
-
-zero-small : (z : ℤ) → eqZ z (pos 0) ≡ true → mag z < 2147483648
-unfolding eqZ
-zero-small (pos n) e = omega (arith, eqb-true n 0 e)
-zero-small (negsuc n) e = absurd (clash e)
-
-carried-p : (ty : Ty) → (carried ty) .p ≡ ty .p
-unfolding carried
-carried-p ty = go (isDc ty)
-  where
-    go : (b : Bool) → (cond b (record { kind = ty .kind - 2; p = ty .p }) ty) .p ≡ ty .p
-    go true = refl
-    go false = refl
+    record { tag = fit-tag ty t (and-left (tokenFits ty t) (tokensFit ty (readTokens k (drop 5 s))) e); value = read-small s b }
+tokens-sane ty (suc k) s b e (suc i) h = tokens-sane ty k (drop 5 s) (octets-drop 5 s b) (and-right (tokenFits ty (tokenAt s)) (tokensFit ty (readTokens k (drop 5 s))) e) i (omega arith)
 
 -- a token of a wire's type
-pub fits-sane : (ty : Ty) (t : Token) → ty .p ≤ 30 → tokenFits ty t ≡ true → Sane t
-unfolding tokenFits
-fits-sane ty t h e =
-    let v : Bool = cond (eqb (t .tag) 1 || eqb (t .tag) 2) (eqZ (t .value) (pos 0)) (within (carried ty) (t .value)) in
-    record { tag = fit-tag ty t e; value = go (eqb (t .tag) 1 || eqb (t .tag) 2) (and-right (tagFits ty (t .tag) && leb (t .tag) 3) v e) }
-  where
-    go : (b : Bool) → cond b (eqZ (t .value) (pos 0)) (within (carried ty) (t .value)) ≡ true → mag (t .value) < 2147483648
-    go true e = zero-small (t .value) e
-    go false e = within-small (carried ty) (t .value) (omega (arith, carried-p ty)) e
+pub fits-sane : (ty : Ty) → GoodType ty → (t : Token) → tokenFits ty t ≡ true → Sane t
+fits-sane ty g t e = record { tag = fit-tag ty t e; value = token-small ty g t e }
 
 -- ── a room ───────────────────────────────────────────────────────────────────────────────────
 
@@ -153,7 +94,7 @@ module _ (ty : Ty) (room k : ℕ) (s : List ℕ) (b : Octets s) (e : roomFits ty
   pub room-count : k ≤ room
   room-count = leb-true k room (and-left (leb k room) (tokensFit ty (readTokens k s)) counted)
 
-  pub room-sane : Each Sane (readTokens k s)
+  pub room-sane : Each Sane noToken (readTokens k s)
   room-sane = tokens-sane ty k s b (and-right (leb k room) (tokensFit ty (readTokens k s)) counted)
 
   pub room-zeros : drop (5 * k) s ≡ replicate (length (drop (5 * k) s)) 0
@@ -167,19 +108,11 @@ module _ (ty : Ty) (room k : ℕ) (s : List ℕ) (b : Octets s) (e : roomFits ty
       let n : (room - length (readTokens k s)) * 5 ≡ length (drop (5 * k) s) = omega (arith, length-read k s, length-drop (5 * k) s) in
       ap₂ (λ (x y : List ℕ). x ++ y) (tokens-take k s b (omega arith)) (ap (λ (m : ℕ). replicate m 0) n ∙ sym room-zeros) ∙ take-append-drop (5 * k) s
 
-pub room-back : (room : ℕ) {ts : List Token} → Each Sane ts → readTokens (length ts) (roomBytes room ts) ≡ ts
-unfolding roomBytes
-room-back room {ts} h = tokens-back h (replicate ((room - length ts) * 5) 0)
-
 -- ── a wire ───────────────────────────────────────────────────────────────────────────────────
 
 pub oldest-wire : (w : Wire) (q : List Token) (t : Token) → Sane t → tokenAt (drop 1 (wireBytes w (t ∷ q))) ≡ t
 unfolding wireBytes roomBytes tokensBytes
-oldest-wire w q t h = let z : List ℕ = replicate ((w .capacity - length (t ∷ q)) * 5) 0 in rw (append-assoc (tokenBytes t) (tokensBytes q) z) (token-back t (tokensBytes q ++ z) h)
-
-pub wire-back : (w : Wire) (q : List Token) → Each Sane q → queueIn w (wireBytes w q) ≡ q
-unfolding queueIn wireBytes
-wire-back w q h = room-back (w .capacity) h
+oldest-wire w q t h = let z : List ℕ = replicate ((w .capacity - length (t ∷ q)) * 5) 0 in rw (append-assoc (tokenBytes t) (tokensBytes q) z) (token-back t (tokensBytes q ++ z) (h .value))
 
 pub wire-whole : (w : Wire) (s : List ℕ) → Octets s → length s ≡ wireSize w → wireFits w s ≡ true → wireBytes w (queueIn w s) ≡ s
 unfolding wireBytes queueIn wireFits wireSize
@@ -196,16 +129,6 @@ wire-held w s b e =
 
 -- ── variables ────────────────────────────────────────────────────────────────────────────────
 
-pub values-back : {zs : List ℤ} → Each Small zs → (vs : List Variable) (rest : List ℕ) → length zs ≡ length vs → valuesIn vs (valuesBytes zs ++ rest) ≡ zs
-unfolding valuesIn valuesBytes
-values-back none [] rest e = refl
-values-back none (v ∷ vs) rest e = absurd (omega arith)
-values-back (more s ss) [] rest e = absurd (omega arith)
-values-back (more {x = z} {xs = zs} s ss) (v ∷ vs) rest e =
-    let r : List ℕ = valuesBytes zs ++ rest in
-    rw (append-assoc (valueBytes z) (valuesBytes zs) rest)
-    (ap₂ (λ (x : ℤ) (xs : List ℤ). x ∷ xs) (value-back z r (s .value)) (ap (valuesIn vs) (drop-at (valueBytes z) r 4 (length-value z)) ∙ values-back ss vs rest (omega arith)))
-
 pub values-take : (vs : List Variable) (s : List ℕ) → Octets s → 4 * length vs ≤ length s → valuesBytes (valuesIn vs s) ≡ take (4 * length vs) s
 unfolding valuesIn valuesBytes
 values-take [] s b h = refl
@@ -214,10 +137,11 @@ values-take (v ∷ vs) s b h =
     let g : 4 * length vs ≤ length (drop 4 s) = simp length-drop (omega arith) in
     ap₂ (λ (x y : List ℕ). x ++ y) (value-take s b (omega arith)) (values-take vs (drop 4 s) (octets-drop 4 s b) g) ∙ sym (ap (λ (n : ℕ). take n s) e ∙ take-add 4 (4 * length vs) s)
 
-pub values-small : (vs : List Variable) (s : List ℕ) → Octets s → Each Small (valuesIn vs s)
+pub values-small : (vs : List Variable) (s : List ℕ) → Octets s → Each Small (pos 0) (valuesIn vs s)
 unfolding valuesIn
-values-small [] s b = none
-values-small (v ∷ vs) s b = more (record { value = value-below s 0 b }) (values-small vs (drop 4 s) (octets-drop 4 s b))
+values-small [] s b i h = absurd (omega arith)
+values-small (v ∷ vs) s b zero h = record { value = value-below s 0 b }
+values-small (v ∷ vs) s b (suc i) h = values-small vs (drop 4 s) (octets-drop 4 s b) i (omega arith)
 
 pub length-in : (vs : List Variable) (s : List ℕ) → length (valuesIn vs s) ≡ length vs
 unfolding valuesIn
@@ -225,14 +149,6 @@ length-in [] s = refl
 length-in (v ∷ vs) s = ap suc (length-in vs (drop 4 s))
 
 -- ── what a process keeps ─────────────────────────────────────────────────────────────────────
-
-pub own-back : {p : Proc} {o : Own} → Kept p o → ownIn p (ownBytes p o) ≡ o
-unfolding ownIn ownBytes varsOf takenOf gotOf
-own-back (ofBox {b = b} {zs = zs} e s) = ap vars (ap (valuesIn (b .vars)) (sym (append-nil (valuesBytes zs))) ∙ values-back s (b .vars) [] e)
-own-back (ofInput {k = k}) = ap taken (ap (λ (l : List ℕ). twoAt l 0) (sym (append-nil (twoBytes k))) ∙ two-back k [])
-own-back (ofOutput {room = room} {ts = ts} h s) =
-    ap got
-    (ap₂ (λ (k : ℕ) (l : List ℕ). readTokens k l) (two-back (length ts) (roomBytes room ts)) (drop-at (twoBytes (length ts)) (roomBytes room ts) 2 (length-two (length ts))) ∙ room-back room s)
 
 pub own-whole : (n : Net) (counted : Bool) (p : Proc) (s : List ℕ) → Octets s → length s ≡ ownSize p → ownFits n counted p s ≡ true → ownBytes p (ownIn p s) ≡ s
 unfolding ownBytes ownIn ownFits ownSize varsOf takenOf gotOf

@@ -8,6 +8,7 @@ use native.Mathlib.Nat.{not-suc-le-zero, le-of-suc-le-suc, zero-add, suc-add}
 use lib.ListN.{length, getD, take, drop, set, length-append, length-take, drop-of-length-le}
 use lib.Seq.{take-append-seam, drop-append-seam, take-append-add, drop-append-add}
 use Rattle.model.specs.States.{cat, sum}
+pub use Rattle.model.proofs.Kept.{cat-append}
 use Rattle.queues.specs.Segments.{mid, putMid, startOf}
 
 -- ── one part ─────────────────────────────────────────────────────────────────────────────────
@@ -88,8 +89,3 @@ start-second a b i = ap sum (take-append-add a b i) ∙ sum-append a (take i b)
 pub set-second : {A : Type 0} (a b : List A) (i : ℕ) (v : A) → set (a ++ b) (length a + i) v ≡ a ++ set b i v
 set-second [] b i v = ap (λ (n : ℕ). set b n v) (zero-add i)
 set-second (x ∷ a) b i v = ap (λ (n : ℕ). set (x ∷ (a ++ b)) n v) (suc-add (length a) i) ∙ ap (λ l. x ∷ l) (set-second a b i v)
-
-pub cat-append : (a b : List (List ℕ)) → cat (a ++ b) ≡ cat a ++ cat b
-unfolding cat
-cat-append [] b = refl
-cat-append (x ∷ a) b = ap (λ (l : List ℕ). x ++ l) (cat-append a b) ∙ sym (append-assoc x (cat a) (cat b))

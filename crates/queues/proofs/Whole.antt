@@ -3,11 +3,11 @@
 use Prim.Native.Nat.{ℕ, zero, suc, _+_, _-_, _≤_, _<_}
 use mathlib.Core.Path.{_≡_, refl, sym, ap, ap₂, _∙_}
 use mathlib.Core.Bool.{Bool, true}
-use mathlib.Core.List.{List, [], _∷_, _++_, map, zipWith, append-assoc}
+use mathlib.Core.List.{List, [], _∷_, _++_, map, zipWith}
 use native.Mathlib.Omega.{arith}
 use native.Mathlib.Nat.{add-sub-cancel-left, not-suc-le-zero, le-of-suc-le-suc}
 use lib.ListN.{length, getD, take, drop, set, length-append, length-map, length-drop, List·getD-append}
-use lib.Seq.{length-take-le, drop-at, take-add, getD-append-add, set-append-left, take-append-seam, drop-append-seam}
+use lib.Seq.{length-take-le, take-add, getD-append-add, set-append-left}
 use Rattle.model.specs.declared.Token.{Token}
 use Rattle.model.specs.Network.{Net, Own, State, vars, noWire, nobody, wire, proc, queue, own}
 use Rattle.model.specs.States.{wireBytes, ownBytes, cat, segments, bytesOf, wireSize, ownSize, sum, wiresSize, stateSize, wireFits, ownFits, queueIn, ownIn, split, allTrue, wireParts, ownParts, stateFits, stateIn}
@@ -17,7 +17,7 @@ use Rattle.queues.specs.Segments.{mid, putMid, startOf, wireStart, ownSt
 use Rattle.queues.specs.Sound.{Both, neither, pair, Held, Kept, Sound}
 use Rattle.queues.proofs.Segments.{lengths, length-cat, read-at, put-at, start-in, sum-append, start-first, start-second, set-second, cat-append}
 use Rattle.queues.proofs.Queues.{length-wire, length-own}
-use Rattle.queues.proofs.Reading.{octets-take, octets-drop, wire-back, wire-whole, wire-held, own-back, own-whole, own-kept}
+use Rattle.queues.proofs.Reading.{octets-take, octets-drop, wire-whole, wire-held, own-whole, own-kept}
 
 -- ── pairs of lists ───────────────────────────────────────────────────────────────────────────
 
@@ -200,52 +200,9 @@ module _ (n : Net) (s : State) (h : Sound n s) where
         let z : last ≡ ownBytes (proc n k) o = x ∙ ap f (own-part k a b l p q) ∙ y in
         rw (z, q, add-sub-cancel-left a (ownSize (proc n k)), p, e) (own-put rest k o l)
 
--- ── the state read back ──────────────────────────────────────────────────────────────────────
+-- ── bytes that fit ───────────────────────────────────────────────────────────────────────────
 
-split-cat : (xs : List (List ℕ)) (rest : List ℕ) → split (lengths xs) (cat xs ++ rest) ≡ xs
-unfolding split cat
-split-cat [] rest = refl
-split-cat (x ∷ xs) rest =
-    rw (append-assoc x (cat xs) rest)
-    (ap₂ (λ (y : List ℕ) (ys : List (List ℕ)). y ∷ ys) (take-append-seam x (cat xs ++ rest)) (ap (split (lengths xs)) (drop-append-seam x (cat xs ++ rest)) ∙ split-cat xs rest))
-
-zip-back : {A B : Type 0} {R : A → B → Type 0} (f : A → B → List ℕ) (g : A → List ℕ → B) → ((x : A) (y : B) → R x y → g x (f x y) ≡ y) → {xs : List A} {ys : List B} → Both R xs ys → zipWith g xs (zipWith f xs ys) ≡ ys
-unfolding zipWith
-zip-back f g e neither = refl
-zip-back {B = B} f g e (pair {x = a} {y = b} r rs) = ap₂ (λ (y : B) (l : List B). y ∷ l) (e a b r) (zip-back f g e rs)
-
--- the parts of a state's bytes
-module _ (n : Net) (s : State) (h : Sound n s) (rest : List ℕ) where
-  abbrev wire-bytes : List (List ℕ)
-  wire-bytes = zipWith wireBytes (n .wires) (s .queues)
-
-  abbrev own-bytes : List (List ℕ)
-  own-bytes = zipWith ownBytes (n .procs) (s .owns)
-
-  in-two : bytesOf n s ++ rest ≡ cat wire-bytes ++ (cat own-bytes ++ rest)
-  unfolding bytesOf segments
-  in-two = ap (λ (l : List ℕ). l ++ rest) (cat-append wire-bytes own-bytes) ∙ append-assoc (cat wire-bytes) (cat own-bytes) rest
-
-  pub parts-wires : wireParts n (bytesOf n s ++ rest) ≡ wire-bytes
-  unfolding wireParts
-  parts-wires = ap₂ split (sym (wire-lengths n s h)) in-two ∙ split-cat wire-bytes (cat own-bytes ++ rest)
-
-  pub parts-owns : ownParts n (bytesOf n s ++ rest) ≡ own-bytes
-  unfolding ownParts wiresSize
-  parts-owns =
-      let d : drop (sum (map wireSize (n .wires))) (bytesOf n s ++ rest) ≡ cat own-bytes ++ rest =
-      ap (drop (sum (map wireSize (n .wires)))) in-two ∙ drop-at (cat wire-bytes) (cat own-bytes ++ rest) (sum (map wireSize (n .wires))) (length-cat wire-bytes ∙ ap sum (wire-lengths n s h)) in
-      ap₂ split (sym (own-lengths n s h)) d ∙ split-cat own-bytes rest
-
--- the bytes of a state hold that state
-pub state-back : (n : Net) (s : State) → Sound n s → (rest : List ℕ) → stateIn n (bytesOf n s ++ rest) ≡ s
-unfolding stateIn
-state-back n s h rest =
-    let u = ap (zipWith queueIn (n .wires)) (parts-wires n s h rest) ∙ zip-back wireBytes queueIn (λ w k r. wire-back w k (r .sane)) (h .wires) in
-    let v = ap (zipWith ownIn (n .procs)) (parts-owns n s h rest) ∙ zip-back ownBytes ownIn (λ x o r. own-back r) (h .procs) in
-    λ i. record { queues = u i; owns = v i }
-
--- bytes that fit, part by part: each part is the layout of what it holds
+-- part by part: each part is the layout of what it holds
 module _ {A B : Type 0} (f : A → B → List ℕ) (g : A → List ℕ → B) (size : A → ℕ) (fits : A → List ℕ → Bool) where
   zip-whole : ((x : A) (s : List ℕ) → Octets s → length s ≡ size x → fits x s ≡ true → f x (g x s) ≡ s) →
       (xs : List A) (s : List ℕ) → Octets s → sum (map size xs) ≤ length s → allTrue (zipWith fits xs (split (map size xs) s)) ≡ true →

@@ -4,15 +4,11 @@ use Prim.Native.Nat.{ℕ, _≤_, _<_, _^_}
 use mathlib.Core.Path.{_≡_}
 use mathlib.Core.List.{List, [], _∷_}
 use lib.ListN.{length}
-use lib.IntN.{ℤ}
+use lib.IntN.{ℤ, pos}
 use lib.Signed.{mag}
 use Rattle.model.specs.declared.Token.{Token}
-use Rattle.model.specs.Network.{Wire, Box, Proc, box, input, output, Net, Own, vars, taken, got, State}
-
--- of each element
-pub data Each {A : Type 0} (P : A → Type 0) : List A → Type 0 where
-  none : Each P []
-  more : {x : A} {xs : List A} → P x → Each P xs → Each P (x ∷ xs)
+use Rattle.model.specs.Network.{Wire, Box, Proc, box, input, output, Net, Own, vars, taken, got, State, noToken}
+use Rattle.model.proofs.Decoded.{Each}
 
 -- of each pair of elements at one place, of lists of one length
 pub data Both {A B : Type 0} (R : A → B → Type 0) : List A → List B → Type 0 where
@@ -31,13 +27,13 @@ pub record Sane (t : Token) : Type 0 where
 -- a queue that a wire holds
 pub record Held (w : Wire) (q : List Token) : Type 0 where
   pub fits : length q ≤ w .capacity
-  pub sane : Each Sane q
+  pub sane : Each Sane noToken q
 
 -- what a process keeps is of its kind and has its place
 pub data Kept : Proc → Own → Type 0 where
-  ofBox : {b : Box} {zs : List ℤ} → length zs ≡ length (b .vars) → Each Small zs → Kept (box b) (vars zs)
+  ofBox : {b : Box} {zs : List ℤ} → length zs ≡ length (b .vars) → Each Small (pos 0) zs → Kept (box b) (vars zs)
   ofInput : {w k : ℕ} {ts : List Token} → Kept (input w ts) (taken k)
-  ofOutput : {w room : ℕ} {ts : List Token} → length ts ≤ room → Each Sane ts → Kept (output w room) (got ts)
+  ofOutput : {w room : ℕ} {ts : List Token} → length ts ≤ room → Each Sane noToken ts → Kept (output w room) (got ts)
 
 -- a state of a network that its bytes hold
 pub record Sound (n : Net) (s : State) : Type 0 where
