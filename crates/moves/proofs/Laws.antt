@@ -40,6 +40,10 @@ module _ (s t p ts : List ℕ) (c : Counts) where
   pub became-more : (b b′ b″ : List ℕ) (s′ s″ : State) → Became s t p ts b c b′ s′ → Became s t p ts b′ c b″ s″ → Became s t p ts b c b″ s″
   became-more b b′ b″ s′ s″ f g = record { stands = g .stands; state = g .state; long = g .long ∙ f .long; rest = g .rest ∙ f .rest }
 
+  -- then a change of what stood there
+  pub became-then : (b b′ b″ : List ℕ) (s′ : State) (f : State → State) → Became s t p ts b c b′ s′ → Became s t p ts b′ c b″ (f (stateOf s t c ts b′)) → Became s t p ts b c b″ (f s′)
+  became-then b b′ b″ s′ f x y = record { stands = y .stands; state = y .state ∙ ap f (x .state); long = y .long ∙ x .long; rest = y .rest ∙ x .rest }
+
 -- ── what stands there afterwards ─────────────────────────────────────────────────────────────
 
 module _ (s : State) where

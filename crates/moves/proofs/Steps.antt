@@ -139,7 +139,7 @@ module _ (s t p ts b : List ℕ) (c : Counts) (h : Standing s t p ts b c) where
 
   pub put-here : (w : ℕ) (k : Token) → CanPut c n st w k → WireStep (wire n w) (RoomFor k) (λ x. pushBytes x k) (queue st w) (queue st w ++ (k ∷ []))
   unfolding capacity
-  put-here w k a = put-step (wire n w) (queue st w) k (wire-good w (a .known)) (a .room) (fine .fit w (wire-in w (a .known))) (a .fits)
+  put-here w k a = put-step (wire n w) (queue st w) k (wire-good w (a .known)) (omega (arith, a .room)) (fine .fit w (wire-in w (a .known))) (a .fits)
 
   proc-in : (k : ℕ) → k < c .boxes + c .inputs + c .outputs → k < length (n .procs)
   proc-in k l = omega (arith, l, procs-n s t p ts b c h)
@@ -173,4 +173,4 @@ module _ (s t p ts b : List ℕ) (c : Counts) (h : Standing s t p ts b c) where
       count-step n (proc n k) (own st k) (fine .kept k (proc-in k l)) (a .left) (omega (arith, tokens-short k (a .least) (a .known)))
 
   pub receive-here : (k : ℕ) (x : Token) → CanReceive c n st k x → OwnStep n (proc n k) (GotRoomFor x) (λ y. gotBytes y x) (own st k) (got (gotOf (own st k) ++ (x ∷ [])))
-  receive-here k x a = receive-step n (proc n k) (own st k) x (net-all s t p ts b c h) (proc-good k (a .known)) (fine .kept k (proc-in k (a .known))) (a .room) (a .fits)
+  receive-here k x a = receive-step n (proc n k) (own st k) x (net-all s t p ts b c h) (proc-good k (a .known)) (fine .kept k (proc-in k (a .known))) (omega (arith, a .room)) (a .fits)

@@ -1,4 +1,5 @@
 use borrow.Author.Needs.{needs}
+use native.Mathlib.Omega.{arith}
 use Rattle.places.specs.Standing.{bareNet}
 use Rattle.moves.specs.Moves.{afterReceive}
 use Rattle.moves.proofs.Laws.{inside, own-asks, own-done}
@@ -10,7 +11,7 @@ own-span-requires : tie.Need-own-span-requires
 unfolding bareNet
 own-span-requires c κs =
     let start = c .before .before .before .before .before in
-    (start .pre .0 .tabled, (start .pre .0 .placed, start .pre .1 .known))
+    (start .pre .0 .tabled, (start .pre .0 .placed, omega (arith, start .pre .1 .known)))
 
 sub-got-push : tie.Need-sub-got-push
 sub-got-push c = search needs
@@ -26,7 +27,7 @@ part-got-push-end c =
 got-push-requires : tie.Need-got-push-requires
 got-push-requires c κs =
     let start = c .before .before .before .before .before .before .before in
-    own-asks _ _ _ _ _ _ (start .pre .0) _ _ _ _ _ (start .pre .1 .known) (c .before .own-span .ensures) (receive-here _ _ _ _ _ _ (start .pre .0) _ _ (start .pre .1))
+    own-asks _ _ _ _ _ _ (start .pre .0) _ _ _ _ _ (omega (arith, start .pre .1 .known)) (c .before .own-span .ensures) (receive-here _ _ _ _ _ _ (start .pre .0) _ _ (start .pre .1))
 
 same-length : tie.Need-same-length
 same-length c = search needs
@@ -35,7 +36,7 @@ returns : tie.Need-returns
 unfolding afterReceive
 returns c =
     let start = c .before .before .before .before .before .before .before .before .before .before in
-    own-done _ _ _ _ _ _ (start .pre .0) _ _ _ _ _ (start .pre .1 .known) (c .before .before .before .before .own-span .ensures) (receive-here _ _ _ _ _ _ (start .pre .0) _ _ (start .pre .1))
+    own-done _ _ _ _ _ _ (start .pre .0) _ _ _ _ _ (omega (arith, start .pre .1 .known)) (c .before .before .before .before .own-span .ensures) (receive-here _ _ _ _ _ _ (start .pre .0) _ _ (start .pre .1))
     _ (c .before .before .got-push .ensures) (λ i. c .slice-known2 .given i .fits)
 
 pub receive-spec : {M : Type 1} → statement M
