@@ -1,0 +1,2 @@
+-- The ways out of each call.
+pub mod Loads
