@@ -1,2 +1,3 @@
 -- The ways out of each call.
 pub mod Loads
+pub mod Writes
