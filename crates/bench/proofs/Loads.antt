@@ -61,6 +61,6 @@ tokens-apart s t ts st c =
     let k = tokensOf s t c ts in
     load-is (bareNet s t c) st ∙ ap₂ (loadWith st) (sym (size-same s y k)) (sym (loaded-same s y k)) ∙ sym (load-is (netIn s t c ts) st)
 
-pub load-open : (s ts t p f st : List ℕ) (c : Counts) (size : ℕ) → OpenWith s ts t p f c size → loadIn (bareNet s t c) st ≡ loadCall s ts st
+pub load-open : (s ts t p f st : List ℕ) (c : Counts) (size : ℕ) → OpenWith s ts t p f c size → (a : After) → a ≡ loadIn (bareNet s t c) st → a ≡ loadCall s ts st
 unfolding loadIn loadCall next
-load-open s ts t p f st c size h = rw (with-tokens s ts t p f c size h) (tokens-apart s t ts st c)
+load-open s ts t p f st c size h a e = rw (with-tokens s ts t p f c size h) (e ∙ tokens-apart s t ts st c)

@@ -15,7 +15,7 @@ use Rattle.model.specs.declared.CheckAnswer.the-variants as check
 use Rattle.model.specs.Network.{Net}
 use Rattle.model.specs.NetworkFile.{Verdict, good, refuse, next, orRefuse, byVerdict, fieldAt, netOf}
 use Rattle.model.specs.States.{tokensFrom, tokenFile, inputTokens, stateSize, stateFits, stateIn, outputFile}
-use Rattle.model.specs.Calls.{written, refused, refusal, keeps, withoutTokens, roomy, held, fileIn, writeCall}
+use Rattle.model.specs.Calls.{After, written, refused, refusal, keeps, withoutTokens, roomy, held, fileIn, writeCall}
 use Rattle.table.specs.declared.Counts.{Counts}
 use Rattle.table.specs.Table.{indexIn}
 use Rattle.places.specs.Standing.{bareNet, found, tokensOf, netIn}
@@ -86,6 +86,6 @@ pub write-refused : (s t p st out : List ℕ) (r : Opened) (x : Refusal) → r �
 unfolding NetworkOpened after refusal writeCall withoutTokens next byVerdict keeps
 write-refused s t p st out r x e h = rw (subst (NetworkOpened s t p) e h) refl
 
-pub write-open : (s t p st out : List ℕ) (c : Counts) (size : ℕ) → Open s t p c size → writeIn (bareNet s t c) st out ≡ writeCall s st out
+pub write-open : (s t p st out : List ℕ) (c : Counts) (size : ℕ) → Open s t p c size → (a : After) → a ≡ writeIn (bareNet s t c) st out → a ≡ writeCall s st out
 unfolding writeIn writeCall withoutTokens next bareNet after
-write-open s t p st out c size h = rw (h .tabled .found) refl
+write-open s t p st out c size h a e = rw (h .tabled .found) e

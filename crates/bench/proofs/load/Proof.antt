@@ -1,4 +1,3 @@
-use mathlib.Core.Path.{_∙_}
 use Rattle.model.specs.Calls.{saidLoad}
 use Rattle.opening.proofs.Laws.{files-open}
 use Rattle.bench.proofs.Loads.{load-refused, load-open}
@@ -58,7 +57,7 @@ returns-2 c =
     let k = g .before .before .before .before .before in
     let a = k .before .before .before .before .before .before .before .args in
     let h = files-open (a .net .now) (a .tokens .now) (k .open-files .last .1 .1 .0) (k .open-files .last .1 .1 .1 .0) (k .open-files .last .1 .1 .1 .1 .0) (k .open-files .result) _ _ (g .counts .given .1) (k .open-files .ensures) in
-    d .load-in .ensures ∙ load-open (a .net .now) (a .tokens .now) (k .open-files .last .1 .1 .0) (k .open-files .last .1 .1 .1 .0) (k .open-files .last .1 .1 .1 .1 .0) (a .state .now) _ _ h
+    load-open (a .net .now) (a .tokens .now) (k .open-files .last .1 .1 .0) (k .open-files .last .1 .1 .1 .0) (k .open-files .last .1 .1 .1 .1 .0) (a .state .now) _ _ h _ (d .load-in .ensures)
 
 pub load-spec : {M : Type 1} → statement M
 load-spec =

@@ -17,7 +17,10 @@ returns c =
     too-short (bareNet (a .net .now) (a .table .now) (a .c)) (a .state .now) (a .size) (start .pre .sized) (omega (arith, c .if1 .taken))
 
 load-requires : tie.Need-load-requires
-load-requires c κs = search needs
+load-requires c κs =
+    let e = c .before in
+    let h = e .before .before .before .before .before .pre in
+    (h .tabled, (h .placed, (h .sized, omega (arith, e .if1 .left))))
 
 same-length : tie.Need-same-length
 same-length c = search needs

@@ -1,4 +1,3 @@
-use mathlib.Core.Path.{_∙_}
 use Rattle.model.specs.Calls.{saidWrite}
 use Rattle.opening.proofs.Laws.{net-open}
 use Rattle.bench.proofs.Writes.{write-refused, write-open}
@@ -54,7 +53,7 @@ returns-2 c =
     let g = d .before .before .before .before .before in
     let k = g .before .before .before .before in
     let a = k .before .before .before .before .before .before .args in
-    d .write-in .ensures ∙ write-open (a .net .now) (k .open-network .last .1 .0) (k .open-network .last .1 .1 .0) (a .state .now) (a .out .now) _ _ (net-open (a .net .now) (k .open-network .last .1 .0) (k .open-network .last .1 .1 .0) (k .open-network .result) _ _ (g .counts .given .1) (k .open-network .ensures))
+    write-open (a .net .now) (k .open-network .last .1 .0) (k .open-network .last .1 .1 .0) (a .state .now) (a .out .now) _ _ (net-open (a .net .now) (k .open-network .last .1 .0) (k .open-network .last .1 .1 .0) (k .open-network .result) _ _ (g .counts .given .1) (k .open-network .ensures)) _ (d .write-in .ensures)
 
 pub write-outputs-spec : {M : Type 1} → statement M
 write-outputs-spec =
