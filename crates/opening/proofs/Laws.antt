@@ -23,7 +23,7 @@ use Rattle.index.specs.Verdicts.{verdictIn}
 use Rattle.octets.proofs.Laws.{Octets}
 use Rattle.lookup.specs.Tabled.{Tabled}
 use Rattle.places.specs.Places.{Placing}
-use Rattle.places.specs.Standing.{bareNet, tokensOf, netIn}
+use Rattle.places.specs.Standing.{bareNet, tokensOf, netIn, stateOf}
 use Rattle.token_file.specs.declared.Tokens.{Tokens}
 use Rattle.token_file.specs.declared.Tokens.the-variants as tokens
 use Rattle.token_file.specs.Fields.{Fields, right, wrong}
@@ -130,3 +130,19 @@ module _ (s ts t p f : List ℕ) (c : Counts) (size : ℕ) (h : OpenWith s ts t 
           files = h;
           standing = record { tabled = n .tabled; placed = n .placed; tokens = h .tokens; octets = o; long = k .long; fits = k .fits };
         }
+
+-- ── what a call that goes on with a state learns ─────────────────────────────────────────────
+
+module _ (s ts t p f b : List ℕ) (r : Opened) (g : StateOpened s ts t p f b r) where
+  pub whole-refused : (x : Refusal) → r ≡ answer.Refused x → next (withTokens s ts) (held true b) ≡ refuse (x .number) (x .place)
+  unfolding StateOpened
+  whole-refused x e = subst (StateOpened s ts t p f b) e g
+
+  pub whole-open : (c : Counts) (size : ℕ) → r ≡ answer.Good c size → OpenState s ts t p f b c size
+  unfolding StateOpened
+  whole-open c size e = subst (StateOpened s ts t p f b) e g
+
+pub whole-held : (s ts t p f b : List ℕ) (c : Counts) (size : ℕ) → OpenState s ts t p f b c size →
+    next (withTokens s ts) (held true b) ≡ good (record { net = netIn s t c ts; state = stateOf s t c ts b })
+unfolding held roomy orRefuse next stateOf
+whole-held s ts t p f b c size h = rw (with-tokens s ts t p f c size (h .files), le-leb (stateSize (netIn s t c ts)) (length b) (h .standing .long), h .standing .fits) refl
