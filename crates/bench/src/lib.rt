@@ -1,0 +1,92 @@
+// The calls of the bench on lent memory: refusals in the order of document 01, then the work. None of them asks for anything.
+use model::CheckAnswer;
+use model::LoadAnswer;
+use model::Refusal;
+use model::WriteAnswer;
+use opening::Opened;
+use table::Counts;
+ghost use mathlib.Core.Path.{_≡_};
+ghost use Rattle.model.specs.Calls.{saidLoad, saidWrite, loadCall, writeCall};
+ghost use Rattle.places.specs.Standing.{bareNet};
+ghost use Rattle.opening.specs.Opening.{Open};
+ghost use Rattle.bench.specs.Afters.{after, loadIn, writeIn};
+
+// A load of an accepted network: 6 for a buffer that is too short.
+fn load_in(
+    net: &[u8],
+    table: &[u16],
+    c: Counts,
+    starts: &[u16],
+    size: usize,
+    state: &mut [u8],
+) -> LoadAnswer
+    requires { ⌜ Open (now net) (now table) (now starts) c size ⌝ }
+    ensures { λ r. ⌜ after (saidLoad r) (now (state .exit)) ≡ loadIn (bareNet (now (net .entry)) (now (table .entry)) c) (now (state .entry)) ⌝ }
+{
+    if state.len() < size {
+        return LoadAnswer::Refused {
+            refusal: Refusal {
+                number: 6,
+                place: size,
+            },
+        };
+    }
+    states::load(net, table, c, starts, size, state);
+    LoadAnswer::Loaded { size }
+}
+
+// A load: wires and outputs empty, counts 0, variables initial.
+pub fn load(net: &[u8], tokens: &[u8], state: &mut [u8]) -> LoadAnswer
+    ensures { λ r. ⌜ after (saidLoad r) (now (state .exit)) ≡ loadCall (now (net .entry)) (now (tokens .entry)) (now (state .entry)) ⌝ }
+{
+    let mut table = [0u16; 656];
+    let mut starts = [0u16; 112];
+    let mut fields = [0u16; 8];
+    match opening::open_files(net, tokens, &mut table, &mut starts, &mut fields) {
+        Opened::Refused { refusal } => LoadAnswer::Refused { refusal },
+        Opened::Good { counts, size } => load_in(net, &table, counts, &starts, size, state),
+    }
+}
+
+// The output file of an accepted network: 6 and 7 for the state, without taken counts, then 6 for the output buffer.
+fn write_in(
+    net: &[u8],
+    table: &[u16],
+    c: Counts,
+    starts: &[u16],
+    size: usize,
+    state: &[u8],
+    out: &mut [u8],
+) -> WriteAnswer
+    requires { ⌜ Open (now net) (now table) (now starts) c size ⌝ }
+    ensures { λ r. ⌜ after (saidWrite r) (now (out .exit)) ≡ writeIn (bareNet (now (net .entry)) (now (table .entry)) c) (now (state .entry)) (now (out .entry)) ⌝ }
+{
+    let fields = [0u16; 8];
+    let h = opening::held(net, table, c, starts, size, b"", &fields, false, state);
+    if let CheckAnswer::Refused { refusal } = h {
+        return WriteAnswer::Refused { refusal };
+    }
+    let written = output_file::output_size(net, table, c, starts, state);
+    if out.len() < written {
+        return WriteAnswer::Refused {
+            refusal: Refusal {
+                number: 6,
+                place: written,
+            },
+        };
+    }
+    output_file::write_file(net, table, c, starts, state, out);
+    WriteAnswer::Written { size: written }
+}
+
+// The tokens that outputs got, one field each, at the start of the output buffer.
+pub fn write_outputs(net: &[u8], state: &[u8], out: &mut [u8]) -> WriteAnswer
+    ensures { λ r. ⌜ after (saidWrite r) (now (out .exit)) ≡ writeCall (now (net .entry)) (now (state .entry)) (now (out .entry)) ⌝ }
+{
+    let mut table = [0u16; 656];
+    let mut starts = [0u16; 112];
+    match opening::open_network(net, &mut table, &mut starts) {
+        Opened::Refused { refusal } => WriteAnswer::Refused { refusal },
+        Opened::Good { counts, size } => write_in(net, &table, counts, &starts, size, state, out),
+    }
+}

@@ -1,0 +1,2 @@
+-- The ways out of each step of an opening.
+pub mod Laws

@@ -1,0 +1,2 @@
+-- What the contracts of opening cite beside the model.
+pub mod Opening
