@@ -18,6 +18,7 @@ use Rattle.model.specs.Network.{Wire, Box, Proc, box, Net, Own, vars, State, no
 use Rattle.model.specs.NetworkFile.{hit, boxAt}
 use Rattle.model.specs.States.{tokenAt, tokenBytes, tokensBytes, roomBytes, wireBytes, ownBytes, wireSize}
 use Rattle.model.specs.Cycles.{oldest, full}
+use Rattle.model.proofs.Decoded.{Each}
 use Rattle.model.proofs.Lookup.{box-proc, procs-length}
 use Rattle.model.proofs.Kept.{GoodVars, GoodOwn, GoodState}
 use Rattle.octets.proofs.Laws.{back}
@@ -26,7 +27,7 @@ use Rattle.table.specs.Table.{indexIn}
 use Rattle.queues.proofs.Queues.{length-wire, wire-count, box-var}
 use Rattle.queues.proofs.Reading.{oldest-wire}
 use Rattle.queues.proofs.Whole.{both-at, both-length}
-use Rattle.queues.specs.Sound.{Each, none, more, Sane, Kept, ofBox, ofInput, ofOutput, Sound}
+use Rattle.queues.specs.Sound.{Sane, Kept, ofBox, ofInput, ofOutput, Sound}
 use Rattle.lookup.proofs.Tabled.{n-boxes}
 use Rattle.places.specs.Standing.{tokensOf, netIn, Standing, stateOf}
 use Rattle.places.proofs.Standing.{state-good, state-laid}
@@ -82,19 +83,19 @@ oldest-none w =
     let z = zero-at ((w .capacity - 0) * 5) in
     rw (z 0, z 1, z 2, z 3, z 4) (unfold signedOf in refl)
 
-pub oldest-is : (w : Wire) (q : List Token) → Each Sane q → tokenAt (drop 1 (wireBytes w q)) ≡ oldest q
+pub oldest-is : (w : Wire) (q : List Token) → Each Sane noToken q → tokenAt (drop 1 (wireBytes w q)) ≡ oldest q
 unfolding oldest
-oldest-is w [] none = oldest-none w
-oldest-is w (t ∷ q) (more h hs) = oldest-wire w q t h
+oldest-is w [] h = oldest-none w
+oldest-is w (t ∷ q) h = oldest-wire w q t (h 0 (omega arith))
 
 -- the tokens on any wire
-queue-sane : (n : Net) (s : State) → Sound n s → (w : ℕ) → Each Sane (queue s w)
+queue-sane : (n : Net) (s : State) → Sound n s → (w : ℕ) → Each Sane noToken (queue s w)
 unfolding queue
 queue-sane n s h w = go (decLt w (length (n .wires)))
   where
-    go : Dec (w < length (n .wires)) → Each Sane (getD (s .queues) w [])
+    go : Dec (w < length (n .wires)) → Each Sane noToken (getD (s .queues) w [])
     go (yes l) = (both-at (h .wires) w noWire [] l) .sane
-    go (no f) = rw (List·getD-eq-default (s .queues) [] {n = w} (omega (arith, f, both-length (h .wires)))) none
+    go (no f) = rw (List·getD-eq-default (s .queues) [] {n = w} (omega (arith, f, both-length (h .wires)))) (λ i l. absurd (omega (arith, l)))
 
 -- ── ports ────────────────────────────────────────────────────────────────────────────────────
 
@@ -151,7 +152,7 @@ held-port ws f j z m h = let e : held z ≡ z = back (omega arith) in rw e (h, m
 
 var-is : {p : Proc} {o : Own} → Kept p o → (j : ℕ) → j < length (varsOf o) → valueAt (ownBytes p o) (4 * j) ≡ getD (varsOf o) j (pos 0)
 unfolding varsOf
-var-is (ofBox {b = b} e h) j l = box-var b h j l
+var-is (ofBox {b = b} {zs = zs} e h) j l = box-var b zs h j l
 var-is ofInput j l = absurd (omega arith)
 var-is (ofOutput m h) j l = absurd (omega arith)
 
