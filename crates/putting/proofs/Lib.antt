@@ -1,0 +1,3 @@
+-- Laws of what a rule's actions leave.
+pub mod Sent
+pub mod Kept

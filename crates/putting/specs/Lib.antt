@@ -1,0 +1,2 @@
+-- What the contracts of putting cite beside the model.
+pub mod Putting
