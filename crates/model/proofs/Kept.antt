@@ -149,7 +149,7 @@ input-deed n w ts o r sees p h = record {
   keeps = record { is = refl; most = omega (arith, h) };
 }
 
-oldest-fits : (t : Ty) (q : List Token) → tokensFit t q ≡ true → 1 ≤ length q → tokenFits t (oldest q) ≡ true
+pub oldest-fits : (t : Ty) (q : List Token) → tokensFit t q ≡ true → 1 ≤ length q → tokenFits t (oldest q) ≡ true
 unfolding oldest tokensFit
 oldest-fits t [] p h = absurd (omega arith)
 oldest-fits t (x ∷ q) p h = and-left (tokenFits t x) (tokensFit t q) p

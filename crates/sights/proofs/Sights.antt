@@ -88,7 +88,7 @@ oldest-is w [] none = oldest-none w
 oldest-is w (t ∷ q) (more h hs) = oldest-wire w q t h
 
 -- the tokens on any wire
-queue-sane : (n : Net) (s : State) → Sound n s → (w : ℕ) → Each Sane (queue s w)
+pub queue-sane : (n : Net) (s : State) → Sound n s → (w : ℕ) → Each Sane (queue s w)
 unfolding queue
 queue-sane n s h w = go (decLt w (length (n .wires)))
   where

@@ -1,0 +1,2 @@
+-- What the contracts of taking cite beside the model.
+pub mod Taking
