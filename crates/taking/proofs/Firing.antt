@@ -1,16 +1,15 @@
 -- The firing of an input and of an output, move by move.
 -- Assumes nothing.
 use mathlib.Core.Path.{_≡_, refl, sym, ap, _∙_, subst}
-use mathlib.Core.Bool.{true}
 use mathlib.Core.List.{List, []}
-use Prim.Native.Nat.{ℕ, _+_, _-_, _≤_, _<_}
+use Prim.Native.Nat.{ℕ, _+_, _-_, _<_}
 use native.Mathlib.Omega.{arith}
 use lib.ListN.{length, getD, drop}
 use Rattle.model.specs.declared.Token.{Token}
 use Rattle.model.specs.Bytes.{twoAt}
-use Rattle.model.specs.Network.{Proc, input, output, Net, Own, taken, got, State, noToken, wire, capacity, proc, queue, own, takenOf, gotOf, insOf, outsOf}
+use Rattle.model.specs.Network.{Proc, input, output, Net, State, noToken, wire, capacity, proc, queue, own, takenOf, insOf, outsOf}
 use Rattle.model.specs.NetworkFile.{inputAt, outputAt, bodyAt}
-use Rattle.model.specs.States.{tokenAt, tokenFits, tokensFit, tokensIn, wireBytes, ownBytes}
+use Rattle.model.specs.States.{tokenAt, tokensIn, wireBytes, ownBytes}
 use Rattle.model.specs.Cycles.{oldest, seen, look, moves, readsOf, sentOf, present, keptOf, deedOf, takeAll, putAll, act}
 use Rattle.model.proofs.Accepted.{InFile}
 use Rattle.model.proofs.Decoded.{GoodProc}
@@ -23,7 +22,7 @@ use Rattle.lookup.proofs.Tabled.{n-boxes, n-inputs, n-outputs, input-entry, out
 use Rattle.places.specs.Standing.{tokensOf, netIn, Standing, stateOf}
 use Rattle.places.proofs.Standing.{net-all, state-good, state-laid}
 use Rattle.sights.proofs.Sights.{oldest-is, queue-sane}
-use Rattle.moves.specs.Moves.{Became, CanTake, CanPut, CanCount, CanReceive, withQueue, withOwn, afterTake, afterPut, afterCount, afterReceive, tokensAt, roomAt, wireAt}
+use Rattle.moves.specs.Moves.{Became, CanTake, CanPut, CanCount, CanReceive, withQueue, withOwn, afterTake, afterPut, afterCount, afterReceive, tokensAt, wireAt}
 use Rattle.moves.proofs.Laws.{became-more, wires-n, procs-n}
 use Rattle.token_file.specs.Fields.{Fields}
 use Rattle.taking.specs.Taking.{fired, InputReady, OutputReady}

@@ -1,2 +1,3 @@
 -- Laws of taking.
 pub mod Firing
+pub mod Reading
