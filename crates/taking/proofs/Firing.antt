@@ -2,7 +2,7 @@
 -- Assumes nothing.
 use mathlib.Core.Path.{_≡_, refl, sym, ap, _∙_, subst}
 use mathlib.Core.List.{List, []}
-use Prim.Native.Nat.{ℕ, _+_, _-_, _<_}
+use Prim.Native.Nat.{ℕ, _+_, _-_, _≤_, _<_}
 use native.Mathlib.Omega.{arith}
 use lib.ListN.{length, getD, drop}
 use Rattle.model.specs.declared.Token.{Token}
@@ -40,14 +40,14 @@ module _ (n : Net) (s : State) (k w : ℕ) where
 
 -- process k is an output of wire w
 pub record OutputAt (c : Counts) (n : Net) (k w : ℕ) : Type 0 where
-  room : ℕ
-  is : proc n k ≡ output w room
+  pub room : ℕ
+  pub is : proc n k ≡ output w room
   pub known : w < c .wires
 
 -- process k is input i, of wire w and with these tokens
 pub record InputAt (c : Counts) (n : Net) (k i w : ℕ) (q : List Token) : Type 0 where
-  is : proc n k ≡ input w q
-  number : i < c .inputs
+  pub is : proc n k ≡ input w q
+  pub number : i < c .inputs
   pub known : w < c .wires
 
 module _ (s t p ts b : List ℕ) (c : Counts) (h : Standing s t p ts b c) where
@@ -64,17 +64,17 @@ module _ (s t p ts b : List ℕ) (c : Counts) (h : Standing s t p ts b c) where
   -- ── an output ──
 
   -- the table's entry at its number after the boxes and the inputs
-  pub output-at : (k a w : ℕ) → OutputReady c n st k → w ≡ getD s (getD t (648 + (a - (c .boxes + c .inputs))) 0 + 3) 0 → a ≡ k → OutputAt c n k w
+  pub output-at : (k a w : ℕ) → c .boxes + c .inputs ≤ k → k < c .boxes + c .inputs + c .outputs → w ≡ getD s (getD t (648 + (a - (c .boxes + c .inputs))) 0 + 3) 0 → a ≡ k → OutputAt c n k w
   unfolding netIn outputAt
-  output-at k a w r f e =
+  output-at k a w from to f e =
       let i : ℕ = a - (c .boxes + c .inputs) in
-      let l : i < c .outputs = omega (arith, e, r .least, r .known) in
-      let q : k ≡ length (indexIn t c .boxes) + length (indexIn t c .inputs) + i = omega (arith, e, r .least, n-boxes s t c (h .tabled), n-inputs s t c (h .tabled)) in
+      let l : i < c .outputs = omega (arith, e, from, to) in
+      let q : k ≡ length (indexIn t c .boxes) + length (indexIn t c .inputs) + i = omega (arith, e, from, n-boxes s t c (h .tabled), n-inputs s t c (h .tabled)) in
       let o = output-entry s t c (h .tabled) i l in
       let g : w ≡ getD s (getD (indexIn t c .outputs) i 0 + 3) 0 = f ∙ ap (λ (a : ℕ). getD s (a + 3) 0) (sym o) in
       let is : proc n k ≡ output w (twoAt s (getD (indexIn t c .outputs) i 0 + 4)) =
       ap (proc n) q ∙ output-proc s (indexIn t c) (tokensOf s t c ts) i (omega (arith, l, n-outputs s t c (h .tabled))) ∙ ap (λ (v : ℕ). output v (twoAt s (getD (indexIn t c .outputs) i 0 + 4))) (sym g) in
-      let gp : GoodProc n (output w (twoAt s (getD (indexIn t c .outputs) i 0 + 4))) = subst (GoodProc n) is (proc-good k (r .known)) in
+      let gp : GoodProc n (output w (twoAt s (getD (indexIn t c .outputs) i 0 + 4))) = subst (GoodProc n) is (proc-good k to) in
       record { room = twoAt s (getD (indexIn t c .outputs) i 0 + 4); is = is; known = omega (arith, gp .0, wires-n s t p ts b c h) }
 
   -- the oldest token of a wire, from its bytes
@@ -107,16 +107,16 @@ module _ (s t p ts b : List ℕ) (c : Counts) (h : Standing s t p ts b c) where
   -- ── an input ──
 
   -- the table's entry at its number after the boxes, and its field's tokens
-  pub input-at : (k a w : ℕ) → InputReady c n st k → w ≡ getD s (getD t (640 + (a - c .boxes)) 0 + 3) 0 → a ≡ k → InputAt c n k (a - c .boxes) w (getD (tokensOf s t c ts) (a - c .boxes) [])
+  pub input-at : (k a w : ℕ) → c .boxes ≤ k → k < c .boxes + c .inputs → w ≡ getD s (getD t (640 + (a - c .boxes)) 0 + 3) 0 → a ≡ k → InputAt c n k (a - c .boxes) w (getD (tokensOf s t c ts) (a - c .boxes) [])
   unfolding netIn inputAt
-  input-at k a w r f e =
+  input-at k a w from to f e =
       let i : ℕ = a - c .boxes in
-      let l : i < c .inputs = omega (arith, e, r .least, r .known) in
-      let q : k ≡ length (indexIn t c .boxes) + i = omega (arith, e, r .least, n-boxes s t c (h .tabled)) in
+      let l : i < c .inputs = omega (arith, e, from, to) in
+      let q : k ≡ length (indexIn t c .boxes) + i = omega (arith, e, from, n-boxes s t c (h .tabled)) in
       let g : w ≡ getD s (getD (indexIn t c .inputs) i 0 + 3) 0 = f ∙ ap (λ (o : ℕ). getD s (o + 3) 0) (sym (input-entry s t c (h .tabled) i l)) in
       let is : proc n k ≡ input w (getD (tokensOf s t c ts) i []) =
       ap (proc n) q ∙ input-proc s (indexIn t c) (tokensOf s t c ts) i (omega (arith, l, n-inputs s t c (h .tabled))) ∙ ap (λ (v : ℕ). input v (getD (tokensOf s t c ts) i [])) (sym g) in
-      let gp : GoodProc n (input w (getD (tokensOf s t c ts) i [])) = subst (GoodProc n) is (proc-good k (omega (arith, r .known))) in
+      let gp : GoodProc n (input w (getD (tokensOf s t c ts) i [])) = subst (GoodProc n) is (proc-good k (omega (arith, to))) in
       record { is = is; number = l; known = omega (arith, gp .0, wires-n s t p ts b c h) }
 
   module _ (k i w : ℕ) (r : InputReady c n st k) (o : InputAt c n k i w (getD (tokensOf s t c ts) i [])) where

@@ -24,7 +24,7 @@ input-token-requires c κs =
     let found = two .before .before .before in
     let start = found .before .before .before .before .before .before .before .before .before in
     let h = start .pre .0 in
-    let o = input-at _ _ _ _ _ _ h _ _ _ (start .pre .1 .1) (found .input-wire .ensures) (found .before .before .wide .ensures .0) in
+    let o = input-at _ _ _ _ _ _ h _ _ _ (start .pre .1 .1 .least) (start .pre .1 .1 .known) (found .input-wire .ensures) (found .before .before .wide .ensures .0) in
     let d = taken-here _ _ _ _ _ _ h _ _ _ (start .pre .1 .1) o _ _ (two .before .own-part .ensures) (two .two-at .ensures .0) in
     token-asked _ _ _ _ _ _ h _ _ _ (start .pre .1 .1) o _ (start .pre .1 .0) _ d
 
@@ -35,7 +35,7 @@ put-requires c κs =
     let found = two .before .before .before in
     let start = found .before .before .before .before .before .before .before .before .before in
     let h = start .pre .0 in
-    let o = input-at _ _ _ _ _ _ h _ _ _ (start .pre .1 .1) (found .input-wire .ensures) (found .before .before .wide .ensures .0) in
+    let o = input-at _ _ _ _ _ _ h _ _ _ (start .pre .1 .1 .least) (start .pre .1 .1 .known) (found .input-wire .ensures) (found .before .before .wide .ensures .0) in
     let d = taken-here _ _ _ _ _ _ h _ _ _ (start .pre .1 .1) o _ _ (two .before .own-part .ensures) (two .two-at .ensures .0) in
     (h, input-puts _ _ _ _ _ _ h _ _ _ (start .pre .1 .1) o _ (start .pre .1 .0) _ d _ (token .input-token .ensures .0))
 
@@ -47,7 +47,7 @@ count-taken-requires c κs =
     let found = two .before .before .before in
     let start = found .before .before .before .before .before .before .before .before .before in
     let h = start .pre .0 in
-    let o = input-at _ _ _ _ _ _ h _ _ _ (start .pre .1 .1) (found .input-wire .ensures) (found .before .before .wide .ensures .0) in
+    let o = input-at _ _ _ _ _ _ h _ _ _ (start .pre .1 .1 .least) (start .pre .1 .1 .known) (found .input-wire .ensures) (found .before .before .wide .ensures .0) in
     let d = taken-here _ _ _ _ _ _ h _ _ _ (start .pre .1 .1) o _ _ (two .before .own-part .ensures) (two .two-at .ensures .0) in
     (put .put .ensures .stands, input-counts _ _ _ _ _ _ h _ _ _ (start .pre .1 .1) o _ (start .pre .1 .0) _ d _ (token .input-token .ensures .0) _ (put .put .ensures))
 
@@ -63,7 +63,7 @@ returns c =
     let found = two .before .before .before in
     let start = found .before .before .before .before .before .before .before .before .before in
     let h = start .pre .0 in
-    let o = input-at _ _ _ _ _ _ h _ _ _ (start .pre .1 .1) (found .input-wire .ensures) (found .before .before .wide .ensures .0) in
+    let o = input-at _ _ _ _ _ _ h _ _ _ (start .pre .1 .1 .least) (start .pre .1 .1 .known) (found .input-wire .ensures) (found .before .before .wide .ensures .0) in
     let d = taken-here _ _ _ _ _ _ h _ _ _ (start .pre .1 .1) o _ _ (two .before .own-part .ensures) (two .two-at .ensures .0) in
     input-done _ _ _ _ _ _ h _ _ _ (start .pre .1 .1) o _ (start .pre .1 .0) _ d _ (token .input-token .ensures .0) _ (put .put .ensures) _ (counted .count-taken .ensures)
 

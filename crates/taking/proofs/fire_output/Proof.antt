@@ -19,7 +19,7 @@ wire-part-requires : tie.Need-wire-part-requires
 wire-part-requires c κs =
     let found = c .before in
     let start = found .before .before .before .before .before .before .before .before in
-    let o = output-at _ _ _ _ _ _ (start .pre .0) _ _ _ (start .pre .1) (found .output-wire .ensures) (found .before .before .wide .ensures .0) in
+    let o = output-at _ _ _ _ _ _ (start .pre .0) _ _ _ (start .pre .1 .least) (start .pre .1 .known) (found .output-wire .ensures) (found .before .before .wide .ensures .0) in
     (start .pre .0, o .known)
 
 oldest-requires : tie.Need-oldest-requires
@@ -29,7 +29,7 @@ take-requires : tie.Need-take-requires
 take-requires c κs =
     let found = c .before .before .before .before in
     let start = found .before .before .before .before .before .before .before .before in
-    let o = output-at _ _ _ _ _ _ (start .pre .0) _ _ _ (start .pre .1) (found .output-wire .ensures) (found .before .before .wide .ensures .0) in
+    let o = output-at _ _ _ _ _ _ (start .pre .0) _ _ _ (start .pre .1 .least) (start .pre .1 .known) (found .output-wire .ensures) (found .before .before .wide .ensures .0) in
     (start .pre .0, output-takes _ _ _ _ _ _ (start .pre .0) _ _ (start .pre .1) o)
 
 receive-requires : tie.Need-receive-requires
@@ -38,7 +38,7 @@ receive-requires c κs =
     let found = taken .before .before .before .before .before in
     let start = found .before .before .before .before .before .before .before .before in
     let h = start .pre .0 in
-    let o = output-at _ _ _ _ _ _ h _ _ _ (start .pre .1) (found .output-wire .ensures) (found .before .before .wide .ensures .0) in
+    let o = output-at _ _ _ _ _ _ h _ _ _ (start .pre .1 .least) (start .pre .1 .known) (found .output-wire .ensures) (found .before .before .wide .ensures .0) in
     let x = oldest-here _ _ _ _ _ _ h _ _ _ (taken .before .before .before .wire-part .ensures) (taken .before .before .oldest .ensures .0) in
     (taken .take .ensures .stands, output-receives _ _ _ _ _ _ h _ _ (start .pre .1) o _ x _ (taken .take .ensures))
 
@@ -52,7 +52,7 @@ returns c =
     let found = taken .before .before .before .before .before in
     let start = found .before .before .before .before .before .before .before .before in
     let h = start .pre .0 in
-    let o = output-at _ _ _ _ _ _ h _ _ _ (start .pre .1) (found .output-wire .ensures) (found .before .before .wide .ensures .0) in
+    let o = output-at _ _ _ _ _ _ h _ _ _ (start .pre .1 .least) (start .pre .1 .known) (found .output-wire .ensures) (found .before .before .wide .ensures .0) in
     let x = oldest-here _ _ _ _ _ _ h _ _ _ (taken .before .before .before .wire-part .ensures) (taken .before .before .oldest .ensures .0) in
     output-done _ _ _ _ _ _ h _ _ (start .pre .1) o _ x _ (taken .take .ensures) _ (got .receive .ensures)
 
