@@ -54,7 +54,7 @@ fit-at t [] p k h = absurd (omega arith)
 fit-at t (x ∷ xs) p zero h = and-left (tokenFits t x) (tokensFit t xs) p
 fit-at t (x ∷ xs) p (suc k) h = fit-at t xs (and-right (tokenFits t x) (tokensFit t xs) p) k (omega arith)
 
-oldest-fits : (t : Ty) (q : List Token) → tokensFit t q ≡ true → 1 ≤ length q → tokenFits t (oldest q) ≡ true
+pub oldest-fits : (t : Ty) (q : List Token) → tokensFit t q ≡ true → 1 ≤ length q → tokenFits t (oldest q) ≡ true
 unfolding oldest tokensFit
 oldest-fits t [] p h = absurd (omega arith)
 oldest-fits t (x ∷ q) p h = and-left (tokenFits t x) (tokensFit t q) p

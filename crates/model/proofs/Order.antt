@@ -82,7 +82,7 @@ takeAll-at (m ∷ ms) qs w h =
     ∙ same-or (m .wire) w (λ q. rw (q, eq-eqb w w refl, getD-set-same qs w (drop 1 (getD qs w [])) [] h) (rw e at (drop-drop (length (onWire w ms)) 1 (getD qs w []))))
     (λ f. rw (ne-eqb (m .wire) w f, getD-set-other qs (m .wire) w x [] (λ p. f (sym p))))
 
-putAll-at : (ms : List Move) (qs : List (List Token)) (w : ℕ) → w < length qs → getD (putAll ms qs) w [] ≡ getD qs w [] ++ onWire w ms
+pub putAll-at : (ms : List Move) (qs : List (List Token)) (w : ℕ) → w < length qs → getD (putAll ms qs) w [] ≡ getD qs w [] ++ onWire w ms
 unfolding putAll onWire joined
 putAll-at [] qs w h = sym (append-nil (getD qs w []))
 putAll-at (m ∷ ms) qs w h =

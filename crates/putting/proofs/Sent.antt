@@ -20,7 +20,7 @@ use Rattle.model.specs.States.{tokenFits, tokensFit}
 use Rattle.model.specs.Cycles.{Move, moves, result, putAll}
 use Rattle.model.specs.Orders.{joined, onWire}
 use Rattle.model.proofs.Tests.{and₂, both}
-use Rattle.model.proofs.Wires.{putAll-at}
+use Rattle.model.proofs.Order.{putAll-at}
 use Rattle.rules.specs.Bodies.{actionsFrom}
 use Rattle.types.specs.Scopes.{scopeIn}
 use Rattle.typing.proofs.Patterns.{minus-zero}

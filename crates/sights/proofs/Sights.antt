@@ -89,7 +89,7 @@ oldest-is w [] h = oldest-none w
 oldest-is w (t ∷ q) h = oldest-wire w q t (h 0 (omega arith))
 
 -- the tokens on any wire
-queue-sane : (n : Net) (s : State) → Sound n s → (w : ℕ) → Each Sane noToken (queue s w)
+pub queue-sane : (n : Net) (s : State) → Sound n s → (w : ℕ) → Each Sane noToken (queue s w)
 unfolding queue
 queue-sane n s h w = go (decLt w (length (n .wires)))
   where

@@ -1,0 +1,4 @@
+-- Laws of taking.
+pub mod Firing
+pub mod Reading
+pub mod Due

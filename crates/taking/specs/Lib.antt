@@ -1,0 +1,3 @@
+-- What the contracts of taking cite beside the model.
+pub mod Taking
+pub mod Reading
