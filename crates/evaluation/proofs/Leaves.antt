@@ -1,27 +1,25 @@
 -- Literals and references: their values; and the offset after an expression.
 -- Assumes nothing.
 use mathlib.Core.Path.{_≡_, refl, sym, ap, _∙_}
-use mathlib.Core.Bool.{Bool, true, false, cond}
-use mathlib.Core.List.{List, [], _∷_}
-use Prim.Native.Nat.{ℕ, zero, suc, _+_, _*_, _≤_, _<_}
+use mathlib.Core.Bool.{true, cond}
+use mathlib.Core.List.{List, []}
+use Prim.Native.Nat.{ℕ, zero, suc, _+_, _*_}
 use native.Mathlib.Omega.{arith}
 use lib.Dec.{ltb}
 use lib.IntN.{ℤ, pos}
-use lib.ListN.{getD, drop, length}
+use lib.ListN.{getD, drop}
 use lib.Seq.{getD-drop}
 use borrow.Author.Tests.{le-ltb}
 use Rattle.model.specs.declared.Ty.{Ty}
-use Rattle.model.specs.declared.Outcome.{Outcome}
-use Rattle.model.specs.declared.Outcome.the-variants.{Value, Fault}
+use Rattle.model.specs.declared.Outcome.the-variants.{Value}
 use Rattle.model.specs.Bytes.{valueAt}
 use Rattle.model.specs.Values.{noType}
-use Rattle.model.specs.Expressions.{Exp, Read, bad, got, headSize, operands, headFits, typeAt, build, expression, Env, valueOf}
+use Rattle.model.specs.Expressions.{Exp, Read, bad, got, headSize, operands, headFits, typeAt, build, expression, valueOf}
 use Rattle.expressions.specs.declared.Form.the-variants as form
 use Rattle.expressions.specs.Reading.{endFrom}
 use Rattle.expressions.proofs.Heads.{head-at}
 use Rattle.expressions.proofs.Depths.{two-left}
 use Rattle.expressions.proofs.Shapes.{no-operand, build-literal, build-matched, build-variable}
-use Rattle.types.specs.Scopes.{scopeIn}
 use Rattle.types.proofs.Judging.{type-drop}
 use Rattle.types.proofs.Leaves.{value-drop, ins-is, vars-is, leaf-exp}
 use Rattle.evaluation.specs.declared.Evaluated.the-variants as evaluated

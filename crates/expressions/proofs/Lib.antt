@@ -4,3 +4,4 @@ pub mod Heads
 pub mod Shapes
 pub mod Depths
 pub mod Parts
+pub mod Calls

@@ -1,18 +1,18 @@
 -- An expression that keeps the limits, taken apart: its head, and its operands at their offsets. And the size of one that was read.
 -- Assumes nothing.
-use mathlib.Core.Path.{_≡_, refl, sym, ap, _∙_, subst}
-use mathlib.Core.Bool.{Bool, true, false, cond, _&&_}
-use mathlib.Core.List.{List, [], _∷_}
-use Prim.Native.Nat.{ℕ, zero, suc, _+_, _-_, _≤_, _<_}
+use mathlib.Core.Path.{_≡_, refl, sym, _∙_, subst}
+use mathlib.Core.Bool.{Bool, true, false, _&&_}
+use mathlib.Core.List.{List, [], _∷_, _++_}
+use Prim.Native.Nat.{ℕ, zero, suc, _+_, _-_, _≤_}
 use native.Mathlib.Omega.{arith}
-use lib.Dec.{leb, eqb}
+use lib.Dec.{eqb}
 use lib.ListN.{getD, drop, length}
 use lib.Seq.{drop-drop}
-use borrow.Author.Tests.{le-leb, lt-leb, eqb-true, eqb-false, ne-eqb, eq-eqb}
+use borrow.Author.Tests.{le-leb, lt-leb, eqb-true, eqb-false, ne-eqb}
 use Rattle.model.specs.Expressions.{Exp, Read, bad, got, after, readMany, headSize, operands, headFits, provided, build, readExp, expression, depthOf, sizeOf}
 use Rattle.model.proofs.Tests.{and-left, and-right}
 use Rattle.expressions.specs.Reading.{preciseHead, shallow, fitsAt}
-use Rattle.expressions.proofs.Reading.{no-exp, some-exp, behind}
+use Rattle.expressions.proofs.Reading.{no-exp, some-exp}
 use Rattle.expressions.proofs.Depths.{allShallow, built, All, sized, depth-pos, two-left, four-up}
 use Rattle.expressions.proofs.Shapes.{no-operand, one-operand, two-operands, three-operands, at-most-three, build-literal, build-matched, build-variable, build-cast, build-one, build-two, build-if}
 
@@ -86,9 +86,14 @@ module _ (s : List ℕ) (at c : ℕ) (h : getD (drop at s) 0 0 ≡ c) where
 
 -- ── size ─────────────────────────────────────────────────────────────────────────────────────
 
-unfoldable sizes : List Exp → ℕ
+unfoldable pub sizes : List Exp → ℕ
 sizes [] = 0
 sizes (e ∷ es) = sizeOf e + sizes es
+
+pub sizes-append : (es fs : List Exp) → sizes (es ++ fs) ≡ sizes es + sizes fs
+unfolding sizes
+sizes-append [] fs = omega arith
+sizes-append (e ∷ es) fs = omega (arith, sizes-append es fs)
 
 module _ (s : List ℕ) (c : ℕ) (h : getD s 0 0 ≡ c) where
   size-none : (a b : Bool) → eqb c 0 ≡ a → eqb c 1 ≡ b → c ≤ 2 → sizeOf (build s []) ≡ headSize c + 0

@@ -1,26 +1,24 @@
 -- Literals and references: their types, where they stand in the bytes.
 -- Assumes nothing.
 use mathlib.Core.Path.{_≡_, refl, sym, ap, _∙_}
-use mathlib.Core.Bool.{Bool, true, false, cond, _&&_, _||_}
-use mathlib.Core.List.{List, [], _∷_}
-use Prim.Native.Nat.{ℕ, zero, suc, _+_, _-_, _*_, _≤_, _<_}
+use mathlib.Core.Bool.{Bool, true, cond, _&&_, _||_}
+use mathlib.Core.List.{List, []}
+use Prim.Native.Nat.{ℕ, zero, suc, _+_, _-_, _*_, _≤_}
 use native.Mathlib.Omega.{arith}
 use lib.Dec.{leb, ltb, eqb}
-use lib.IntN.{ℤ}
-use lib.ListN.{getD, drop, length}
+use lib.ListN.{getD, drop}
 use lib.Seq.{getD-drop}
-use borrow.Author.Tests.{le-ltb, leb-true, eq-eqb, ne-eqb}
+use borrow.Author.Tests.{le-ltb, leb-true, eq-eqb}
 use Rattle.model.specs.declared.Ty.{Ty}
 use Rattle.model.specs.Bytes.{valueAt, fourAt}
 use Rattle.model.specs.Values.{isPlain, within, noType, inPrecision}
-use Rattle.model.specs.Expressions.{Exp, Read, bad, got, after, readMany, headSize, operands, headFits, typeAt, build, expression, Scope, Typed, typed, ill, judged, typeOf, expressionLimits}
+use Rattle.model.specs.Expressions.{Exp, Read, bad, got, after, readMany, headSize, operands, headFits, typeAt, build, expression, Scope, Typed, judged, typeOf, expressionLimits}
 use Rattle.model.proofs.Tests.{and-left, and-right}
 use Rattle.expressions.specs.Reading.{preciseHead, shallow, fitsAt, limitsRead}
 use Rattle.expressions.proofs.Reading.{some-exp}
 use Rattle.expressions.proofs.Heads.{head-at, precise-named}
 use Rattle.expressions.proofs.Depths.{two-left}
 use Rattle.expressions.proofs.Shapes.{no-operand, build-literal, build-matched, build-variable}
-use Rattle.types.specs.declared.Typing.{Typing}
 use Rattle.types.specs.declared.Typing.the-variants as typing
 use Rattle.types.specs.Scopes.{scopeIn, placed, typedAt}
 use Rattle.types.proofs.Judging.{judged-is, type-drop}
