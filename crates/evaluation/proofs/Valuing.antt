@@ -11,17 +11,17 @@ use lib.IntN.{ℤ, pos}
 use lib.ListN.{getD, drop, length}
 use mir.Syntax.{w64}
 use mir.Val.{toZ, ofZ}
-use borrow.Author.Tests.{leb-true, eqb-true, eqb-false, eq-eqb, ne-eqb}
+use borrow.Author.Tests.{eqb-true, eqb-false, eq-eqb, ne-eqb}
 use Rattle.model.specs.declared.Ty.{Ty}
 use Rattle.model.specs.declared.Outcome.{Outcome}
 use Rattle.model.specs.declared.Outcome.the-variants.{Value, Fault}
-use Rattle.model.specs.Values.{inPrecision, wrap, eqZ, isTrue, apply, applyOne}
+use Rattle.model.specs.Values.{wrap, eqZ, isTrue, apply, applyOne}
 use Rattle.model.specs.Expressions.{Exp, Read, got, operands, typeAt, build, expression, depthOf, precise, Scope, Typed, typed, ill, typeOf, Env, then, valueOf}
-use Rattle.model.proofs.Tests.{and-left, and-right}
+use Rattle.model.proofs.Tests.{and-right}
 use Rattle.values.proofs.Machine.{back}
 use Rattle.values.proofs.Results.{Small, Sound}
 use Rattle.expressions.specs.Reading.{shallow, fitsAt}
-use Rattle.expressions.proofs.Heads.{precise-named}
+use Rattle.expressions.proofs.Heads.{named-precise}
 use Rattle.expressions.proofs.Depths.{four-up}
 use Rattle.expressions.proofs.Shapes.{one-operand, two-operands, three-operands, at-most-three, build-cast, build-one, build-two, build-if}
 use Rattle.expressions.proofs.Calls as calls
@@ -119,13 +119,9 @@ module _ (en : Env) (call : Call) where
 
 -- a cast's precision
 pub cast-precise : (x : Call) {named : Ty} → named ≡ typeAt (x .s) (x .at + 1) → x .c ≡ 3 → (1 ≤ named .p) × (named .p ≤ 62)
-unfolding inPrecision
-cast-precise x {named} q e =
-    let t = typeAt (x .s) (x .at + 1) in
+cast-precise x q e =
     let n : (eqb (x .c) 0 || eqb (x .c) 3) ≡ true = rw (ne-eqb (x .c) 0 (λ i. omega arith), eq-eqb (x .c) 3 e) in
-    let w : (leb 1 (t .p) && leb (t .p) 30) ≡ true = sym (precise-named (x .s) (x .at) (x .c) (x .head) n) ∙ calls.precise x in
-    let high = leb-true (t .p) 30 (and-right (leb 1 (t .p)) (leb (t .p) 30) w) in
-    rw q (leb-true 1 (t .p) (and-left (leb 1 (t .p)) (leb (t .p) 30) w), omega arith)
+    named-precise (x .s) (x .at) (x .c) (x .head) n (calls.precise x) q
 
 -- a signed local that holds a value, back from its bits
 pub stored : {t : Ty} {z : ℤ} → Small t z → toZ w64 (ofZ w64 z) ≡ z

@@ -5,3 +5,4 @@ pub mod Shapes
 pub mod Depths
 pub mod Parts
 pub mod Calls
+pub mod Leaves

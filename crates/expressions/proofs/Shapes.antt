@@ -1,15 +1,15 @@
 -- An expression by its head and its operands: which expression it is, by the code.
 -- Assumes nothing.
-use mathlib.Core.Path.{_≡_, refl, sym, ap, _∙_}
+use mathlib.Core.Path.{_≡_, refl}
 use mathlib.Core.Bool.{Bool, true, false, cond}
 use mathlib.Core.List.{List, [], _∷_}
-use Prim.Native.Nat.{ℕ, zero, suc, _+_, _-_, _≤_, _<_}
+use Prim.Native.Nat.{ℕ, _-_, _≤_}
 use native.Mathlib.Omega.{arith}
-use lib.Dec.{leb, eqb}
-use lib.ListN.{getD, drop, length, length-drop}
-use borrow.Author.Tests.{le-leb, lt-leb, eq-eqb, ne-eqb, leb-true, leb-false}
+use lib.Dec.{leb}
+use lib.ListN.{getD}
+use borrow.Author.Tests.{le-leb, lt-leb, ne-eqb, leb-true, leb-false}
 use Rattle.model.specs.Bytes.{valueAt}
-use Rattle.model.specs.Expressions.{Exp, literal, matched, variable, cast, one, two, if, Read, bad, got, after, readMany, operands, typeAt, build}
+use Rattle.model.specs.Expressions.{Exp, literal, matched, variable, cast, one, two, if, operands, typeAt, build}
 
 -- ── the code by the count of operands ────────────────────────────────────────────────────────
 
