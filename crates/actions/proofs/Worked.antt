@@ -18,7 +18,8 @@ use Rattle.model.specs.Cycles.{Mark, result, newVar, newVars, faultless, action
 use Rattle.model.proofs.Tests.{and₂, both}
 use Rattle.model.proofs.Decoded.{GoodRule}
 use Rattle.model.proofs.Kept.{also-fits, fitIf-fits, hasType-fits}
-use Rattle.evaluation.proofs.Sound.{judged-true, operand-typed}
+use Rattle.types.proofs.Judging.{operand-typed}
+use Rattle.evaluation.proofs.Sound.{judged-true}
 use Rattle.typing.specs.Fits.{Agree}
 use Rattle.typing.proofs.Scoping.{type-same}
 use Rattle.actions.specs.declared.Faults.{Faults}

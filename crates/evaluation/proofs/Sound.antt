@@ -1,9 +1,9 @@
 -- An expression that has a type works out to a fault, or to a value of a type of precision 1 to 30 that 32 bits hold.
 -- Assumes nothing.
-use mathlib.Core.Path.{_≡_, refl, sym, ap, _∙_}
-use mathlib.Core.Bool.{Bool, true, false, cond, _&&_}
-use mathlib.Core.List.{List, [], _∷_}
-use Prim.Native.Nat.{ℕ, zero, suc, _+_, _^_, _≤_, _<_}
+use mathlib.Core.Path.{_≡_, refl}
+use mathlib.Core.Bool.{Bool, true, false, _&&_}
+use mathlib.Core.List.{List}
+use Prim.Native.Nat.{ℕ, zero, suc, _^_, _≤_}
 use native.Mathlib.Omega.{arith}
 use lib.Dec.{leb, lit≤}
 use lib.IntN.{ℤ, pos}
@@ -14,23 +14,18 @@ use Rattle.model.specs.declared.Ty.{Ty}
 use Rattle.model.specs.declared.Outcome.{Outcome}
 use Rattle.model.specs.declared.Outcome.the-variants.{Value, Fault}
 use Rattle.model.specs.Values.{isPlain, inPrecision, within, noType, isTrue}
-use Rattle.model.specs.Expressions.{Exp, literal, matched, variable, cast, one, two, if, precise, Typed, typed, ill, judged, operandAt, typeOf, Env, then, valueOf}
+use Rattle.model.specs.Expressions.{Exp, literal, matched, variable, cast, one, two, if, precise, typed, judged, typeOf, then, valueOf}
 use Rattle.model.proofs.Tests.{and-left, and-right}
 use Rattle.model.proofs.Wrapping.{within-mag, pow-30}
 use Rattle.values.proofs.Results.{Small, Sound, sound-cond, wrap-small, apply-sound, apply-one-sound}
 use Rattle.types.specs.Scopes.{scopeIn}
+use Rattle.types.proofs.Judging.{operand-typed}
 use Rattle.evaluation.specs.Envs.{envIn, EnvFits}
 
 pub judged-true : (b : Bool) (t : Ty) {u : Ty} → judged b t ≡ typed u → b ≡ true
 unfolding judged
 judged-true true t e = refl
 judged-true false t e = absurd (let z : _≡_ {A = ℕ} 0 1 = cc in omega arith)
-
--- an operand has a type, and what is made of it
-pub operand-typed : (at : ℕ) (x : Typed) (f : Ty → Typed) {u : Ty} → operandAt at x f ≡ typed u → (t : Ty) × ((x ≡ typed t) × (f t ≡ typed u))
-unfolding operandAt
-operand-typed at (typed t) f e = (t, (refl, e))
-operand-typed at (ill k) f e = absurd (let z : _≡_ {A = ℕ} 0 1 = cc in omega arith)
 
 precision : (t : Ty) → inPrecision t ≡ true → (1 ≤ t .p) × (t .p ≤ 30)
 unfolding inPrecision

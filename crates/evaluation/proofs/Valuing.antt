@@ -2,54 +2,38 @@
 -- Assumes nothing.
 use mathlib.Core.Path.{_≡_, refl, sym, ap, _∙_, subst}
 use mathlib.Core.Bool.{Bool, true, false, not, cond, _&&_, _||_}
-use mathlib.Core.List.{List, [], _∷_}
-use Prim.Native.Nat.{ℕ, zero, suc, _+_, _-_, _≤_, _<_}
+use mathlib.Core.Logic.{_⊎_, inl, inr}
+use mathlib.Core.List.{List, [], _∷_, _++_, append-assoc}
+use Prim.Native.Nat.{ℕ, suc, _+_, _-_, _≤_, _<_}
 use native.Mathlib.Omega.{arith}
 use lib.Dec.{leb, eqb}
 use lib.IntN.{ℤ, pos}
 use lib.ListN.{getD, drop, length}
-use borrow.Author.Tests.{leb-true, eqb-true, eqb-false, eq-eqb, ne-eqb}
+use mir.Syntax.{w64}
+use mir.Val.{toZ, ofZ}
+use borrow.Author.Tests.{eqb-true, eqb-false, eq-eqb, ne-eqb}
 use Rattle.model.specs.declared.Ty.{Ty}
 use Rattle.model.specs.declared.Outcome.{Outcome}
 use Rattle.model.specs.declared.Outcome.the-variants.{Value, Fault}
-use Rattle.model.specs.Values.{inPrecision, wrap, eqZ, isTrue, apply, applyOne}
-use Rattle.model.specs.Expressions.{Exp, Read, bad, got, headSize, operands, typeAt, build, expression, depthOf, precise, Scope, Typed, typed, ill, typeOf, Env, then, valueOf}
-use Rattle.model.proofs.Tests.{and-left, and-right}
+use Rattle.model.specs.Values.{wrap, eqZ, isTrue, apply, applyOne}
+use Rattle.model.specs.Expressions.{Exp, Read, got, operands, typeAt, build, expression, depthOf, precise, Scope, Typed, typed, ill, typeOf, Env, then, valueOf}
+use Rattle.model.proofs.Tests.{and-right}
+use Rattle.values.proofs.Machine.{back}
 use Rattle.values.proofs.Results.{Small, Sound}
-use Rattle.expressions.specs.Reading.{preciseHead, shallow, fitsAt}
-use Rattle.expressions.proofs.Heads.{precise-named}
+use Rattle.expressions.specs.Reading.{shallow, fitsAt}
+use Rattle.expressions.proofs.Heads.{named-precise}
 use Rattle.expressions.proofs.Depths.{four-up}
 use Rattle.expressions.proofs.Shapes.{one-operand, two-operands, three-operands, at-most-three, build-cast, build-one, build-two, build-if}
-use Rattle.expressions.proofs.Parts.{Parts}
-use Rattle.types.specs.declared.Typing.{Typing}
-use Rattle.types.specs.declared.Typing.the-variants as typing
+use Rattle.expressions.proofs.Calls as calls
+use Rattle.expressions.proofs.Calls.{Call, two-or-three, Reached, Next, there, all, end, count-all, next, last, deep}
 use Rattle.types.specs.Scopes.{scopeIn, placed, typedAt}
-use Rattle.types.proofs.Judging.{typed-there, Step, run-length, run-end}
-use Rattle.types.proofs.Exits as exits
+use Rattle.types.proofs.Judging.{Typeds, typed-built, typeds-at, type-drop}
 use Rattle.evaluation.specs.declared.Evaluated.{Evaluated}
 use Rattle.evaluation.specs.declared.Evaluated.the-variants as evaluated
 use Rattle.evaluation.specs.Envs.{envIn, EnvFits, outcomeAt, valuedAt, skipTo, isTyped}
 use Rattle.evaluation.proofs.Sound.{sound}
 
 -- ── what an answer says of the expression there ──────────────────────────────────────────────
-
-pub no-ill : (y : Typing) (q : ℕ) → isTyped y ≡ true → y ≡ typing.Ill q → ⊥
-unfolding isTyped
-no-ill (typing.Typed t n) q e f = let z : _≡_ {A = ℕ} 0 1 = cc in omega arith
-no-ill (typing.Ill k) q e f = let z : _≡_ {A = ℕ} 0 1 = cc in omega arith
-
-pub record Has (y : Typing) : Type 0 where
-  pub ty : Ty
-  pub next : ℕ
-  pub eq : y ≡ typing.Typed ty next
-
-pub has-else : (y : Typing) → ((q : ℕ) → y ≡ typing.Ill q → ⊥) → Has y
-has-else (typing.Typed t n) f = record { ty = t; next = n; eq = refl }
-has-else (typing.Ill k) f = absurd (f k refl)
-
-has-typed : {y : Typing} → Has y → isTyped y ≡ true
-unfolding isTyped
-has-typed h = rw (h .eq)
 
 outcome-value : (m : ℕ) (o : Outcome) {u : Ty} {x : ℤ} {n : ℕ} → outcomeAt m o ≡ evaluated.Value u x n → (o ≡ Value u x) × (m ≡ n)
 unfolding outcomeAt
@@ -74,24 +58,52 @@ module _ (en : Env) (at : ℕ) (r : Read Exp) {e : Exp} {n : ℕ} (x : r ≡ got
   unfolding skipTo
   skip-there = rw x
 
+typed-go : (at n : ℕ) (y : Typed) → isTyped (placed at n y) ≡ true → (t : Ty) × (y ≡ typed t)
+unfolding isTyped placed
+typed-go at n (typed t) e = (t, refl)
+typed-go at n (ill k) e = absurd (let z : _≡_ {A = ℕ} 0 1 = cc in omega arith)
+
+module _ (sc : Scope) (at : ℕ) (r : Read Exp) {e : Exp} {n : ℕ} (x : r ≡ got e n) where
+  type-there : isTyped (typedAt sc at r) ≡ true → (t : Ty) × (typeOf sc e ≡ typed t)
+  unfolding typedAt
+  type-there y = typed-go at n (typeOf sc e) (rw x at y)
+
+  is-typed : {t : Ty} → typeOf sc e ≡ typed t → isTyped (typedAt sc at r) ≡ true
+  unfolding typedAt placed isTyped
+  is-typed y = rw (x, y)
+
 -- ── operators ────────────────────────────────────────────────────────────────────────────────
 
-module _ (en : Env) (u : List ℕ) (c : ℕ) (h : getD u 0 0 ≡ c) where
-  one-by : (b : Bool) (e : Exp) {t : Ty} {x : ℤ} → eqb c 3 ≡ b → 3 ≤ c → c ≤ 5 → valueOf en e ≡ Value t x → valueOf en (build u (e ∷ [])) ≡ cond b (Value (typeAt u 1) (wrap (typeAt u 1) x)) (applyOne c t x)
+-- a cast, or not and lnot
+abbrev pub oneValue : ℕ → Ty → Ty → ℤ → Outcome
+oneValue c named t x = cond (eqb c 3) (Value named (wrap named x)) (applyOne c t x)
+
+-- by the operator at a call
+module _ (en : Env) (call : Call) where
+  abbrev u : List ℕ
+  u = drop (call .at) (call .s)
+
+  abbrev c : ℕ
+  c = call .c
+
+  abbrev h : getD u 0 0 ≡ c
+  h = there call
+
+  one-by : (b : Bool) (e : Exp) {t : Ty} {x : ℤ} → eqb c 3 ≡ b → 3 ≤ c → c ≤ 5 → valueOf en e ≡ Value t x → valueOf en (build u (e ∷ [])) ≡ oneValue c (typeAt u 1) t x
   unfolding valueOf then
-  one-by true e b l m y = rw (build-cast u c h e (eqb-true c 3 b), y)
-  one-by false e b l m y = rw (build-one u c h e (four-up c l (eqb-false c 3 b)) m, y)
+  one-by true e b l m y = rw (build-cast u c h e (eqb-true c 3 b), y, b)
+  one-by false e b l m y = rw (build-one u c h e (four-up c l (eqb-false c 3 b)) m, y, b)
 
-  value-one : (e : Exp) {t : Ty} {x : ℤ} → operands c ≡ 1 → valueOf en e ≡ Value t x → valueOf en (build u (e ∷ [])) ≡ cond (eqb c 3) (Value (typeAt u 1) (wrap (typeAt u 1) x)) (applyOne c t x)
-  value-one e o y = let r = one-operand c o in one-by (eqb c 3) e refl (r .0) (r .1) y
+  value-one : (e : Exp) {t : Ty} {x : ℤ} → call .k ≡ 1 → valueOf en e ≡ Value t x → valueOf en (build u (e ∷ [])) ≡ oneValue c (typeAt u 1) t x
+  value-one e o y = let r = one-operand c (sym (call .count) ∙ o) in one-by (eqb c 3) e refl (r .0) (r .1) y
 
-  value-two : (e f : Exp) {t : Ty} {x : ℤ} → operands c ≡ 2 → valueOf en e ≡ Value t x → valueOf en (build u (e ∷ f ∷ [])) ≡ then (valueOf en f) (λ v y. apply c t x y)
+  value-two : (e f : Exp) {t : Ty} {x : ℤ} → call .k ≡ 2 → valueOf en e ≡ Value t x → valueOf en (build u (e ∷ f ∷ [])) ≡ then (valueOf en f) (λ v y. apply c t x y)
   unfolding valueOf then
-  value-two e f o y = let r = two-operands c o in rw (build-two u c h e f (r .0) (r .1), y)
+  value-two e f o y = let r = two-operands c (sym (call .count) ∙ o) in rw (build-two u c h e f (r .0) (r .1), y)
 
-  value-if : (e f g : Exp) {t : Ty} {x : ℤ} → operands c ≡ 3 → valueOf en e ≡ Value t x → valueOf en (build u (e ∷ f ∷ g ∷ [])) ≡ cond (not (eqZ x (pos 0))) (valueOf en f) (valueOf en g)
+  value-if : (e f g : Exp) {t : Ty} {x : ℤ} → call .k ≡ 3 → valueOf en e ≡ Value t x → valueOf en (build u (e ∷ f ∷ g ∷ [])) ≡ cond (not (eqZ x (pos 0))) (valueOf en f) (valueOf en g)
   unfolding valueOf then isTrue
-  value-if e f g o y = rw (build-if u c h e f g (three-operands c o), y)
+  value-if e f g o y = rw (build-if u c h e f g (three-operands c (sym (call .count) ∙ o)), y)
 
   cast-fault : (b : Bool) (e : Exp) {q : ℕ} → eqb c 3 ≡ b → 3 ≤ c → c ≤ 5 → valueOf en e ≡ Fault q → valueOf en (build u (e ∷ [])) ≡ Fault q
   unfolding valueOf then
@@ -105,194 +117,204 @@ module _ (en : Env) (u : List ℕ) (c : ℕ) (h : getD u 0 0 ≡ c) where
   value-fault e (f ∷ g ∷ []) o y = rw (build-if u c h e f g (three-operands c (sym o)), y)
   value-fault e (f ∷ g ∷ i ∷ rest) o y = absurd (omega (arith, at-most-three c))
 
-two-is : (k : ℕ) → 0 < k → 0 < k - 1 → k ≤ 3 → (k ≡ 3 → ⊥) → k ≡ 2
-two-is zero l m n e = absurd (omega arith)
-two-is (suc zero) l m n e = absurd (omega arith)
-two-is (suc (suc zero)) l m n e = refl
-two-is (suc (suc (suc zero))) l m n e = absurd (e refl)
-two-is (suc (suc (suc (suc k)))) l m n e = absurd (omega arith)
-
 -- a cast's precision
-pub cast-precise : (s : List ℕ) (at c : ℕ) {named : Ty} → c ≡ getD s at 0 → named ≡ typeAt s (at + 1) → c ≡ 3 → preciseHead (drop at s) ≡ true → (1 ≤ named .p) × (named .p ≤ 62)
-unfolding inPrecision
-cast-precise s at c {named} h q e p =
-    let t = typeAt s (at + 1) in
-    let n : (eqb c 0 || eqb c 3) ≡ true = rw (ne-eqb c 0 (λ i. omega arith), eq-eqb c 3 e) in
-    let w : (leb 1 (t .p) && leb (t .p) 30) ≡ true = sym (precise-named s at c h n) ∙ p in
-    rw q (leb-true 1 (t .p) (and-left (leb 1 (t .p)) (leb (t .p) 30) w), omega (arith, leb-true (t .p) 30 (and-right (leb 1 (t .p)) (leb (t .p) 30) w)))
+pub cast-precise : (x : Call) {named : Ty} → named ≡ typeAt (x .s) (x .at + 1) → x .c ≡ 3 → (1 ≤ named .p) × (named .p ≤ 62)
+cast-precise x q e =
+    let n : (eqb (x .c) 0 || eqb (x .c) 3) ≡ true = rw (ne-eqb (x .c) 0 (λ i. omega arith), eq-eqb (x .c) 3 e) in
+    named-precise (x .s) (x .at) (x .c) (x .head) n (calls.precise x) q
 
--- ── the expression at an offset ──────────────────────────────────────────────────────────────
+-- a signed local that holds a value, back from its bits
+pub stored : {t : Ty} {z : ℤ} → Small t z → toZ w64 (ofZ w64 z) ≡ z
+stored h = back (omega (arith, h .small))
 
-small-at : (vs : List ℤ) (ts : List ℕ) (ok : EnvFits vs ts) (d at : ℕ) (r : Read Exp) {t u : Ty} {n m : ℕ} {x : ℤ} → fitsAt d r ≡ true → typedAt (scopeIn ts) at r ≡ typing.Typed t n → valuedAt (envIn vs ts) at r ≡ evaluated.Value u x m → Small u x
-unfolding fitsAt shallow Sound
-small-at vs ts ok d at bad f y v = absurd (let z : _≡_ {A = ℕ} 0 1 = cc in omega arith)
-small-at vs ts ok d at (got e k) {t} {u} {x = x} f y v =
-    let w : Sound (valueOf (envIn vs ts) e) = sound vs ts ok e t (and-right (leb (depthOf e) d) (precise e) f) (typed-there (scopeIn ts) at (got e k) refl y .0) in
-    rw (value-there (envIn vs ts) at (got e k) refl v .0) at w
+-- ── the call, and an operand of it ───────────────────────────────────────────────────────────
 
-module _ (s : List ℕ) (at d c : ℕ) (h : c ≡ getD s at 0) (l : at ≤ length s) (g : fitsAt d (expression (drop at s)) ≡ true) (vs : List ℤ) (ts : List ℕ) (ok : EnvFits vs ts) (ty : isTyped (typedAt (scopeIn ts) at (expression (drop at s))) ≡ true) (o : 0 < operands c) where
-  abbrev sc : Scope
-  sc = scopeIn ts
+-- a call over these values, at an expression that has a type
+pub record Work : Type 0 where
+  pub call : Call
+  pub vs : List ℤ
+  pub ts : List ℕ
+  pub ok : EnvFits vs ts
+  pub typed : isTyped (typedAt (scopeIn ts) (call .at) (expression (drop (call .at) (call .s)))) ≡ true
 
-  abbrev en : Env
-  en = envIn vs ts
+abbrev scope : Work → Scope
+scope w = scopeIn (w .ts)
 
-  abbrev E : ℕ → Read Exp
-  E i = expression (drop i s)
+abbrev env : Work → Env
+env w = envIn (w .vs) (w .ts)
 
-  abbrev here : ℕ
-  here = at + headSize c
+abbrev readAt : Work → ℕ → Read Exp
+readAt w i = expression (drop i (w .call .s))
 
-  abbrev all : Parts s at d c
-  all = exits.all s at d c h l g
+abbrev pub answerAt : Work → ℕ → Evaluated
+answerAt w i = valuedAt (env w) i (readAt w i)
 
-  there : getD (drop at s) 0 0 ≡ c
-  there = exits.there s at d c h l g
+abbrev whole : Work → Evaluated
+whole w = answerAt w (w .call .at)
 
-  answer : {x : Outcome} (es : List Exp) → all .es ≡ es → valueOf en (build (drop at s) es) ≡ x → valuedAt en at (E at) ≡ outcomeAt (at + all .size) x
-  unfolding valuedAt
-  answer es q e = rw (all .read, q) (ap (outcomeAt (at + all .size)) e)
+-- an if ends behind the branch for false
+abbrev ifEnd : Work → ℤ → ℕ → ℕ
+ifEnd w z m = cond (eqZ z (pos 0)) m (skipTo m (readAt w m))
 
-  abbrev first : Step s (d - 1) (operands c) here (all .es) (at + all .size)
-  first = exits.first s at d c h l g o
+answer : (w : Work) {y : Outcome} (es : List Exp) → all (w .call) .es ≡ es → valueOf (env w) (build (drop (w .call .at) (w .call .s)) es) ≡ y → whole w ≡ outcomeAt (end (w .call)) y
+unfolding valuedAt
+answer w es q e = rw (all (w .call) .read, q) (ap (outcomeAt (end (w .call))) e)
 
-  pub first-has : Has (typedAt sc here (E here))
-  first-has = has-else (typedAt sc here (E here)) (λ q e. no-ill (typedAt sc at (E at)) q ty (exits.exit-first s at d c h l g o sc q e))
+-- an operand from an offset on, k being left with it; it has a type
+pub record Operand (w : Work) (done : List Exp) (k at : ℕ) : Type 0 where
+  pub next : Next (w .call) done k at
+  pub ty : Ty
+  pub typed : typeOf (scopeIn (w .ts)) (next .e) ≡ typed ty
 
-  pub first-typed : isTyped (typedAt sc here (E here)) ≡ true
-  first-typed = has-typed first-has
+pub operand : (w : Work) {done : List Exp} {k at : ℕ} → Reached (w .call) done k at → 0 < k → Operand w done k at
+operand w {done} r l =
+    let x = w .call in
+    let y = next r l in
+    let t = type-there (scope w) (x .at) (readAt w (x .at)) (all x .read) (w .typed) in
+    let all-typed = typed-built (scope w) x (all x .es) (count-all x) (t .1) in
+    let these : all x .es ≡ done ++ (y .e ∷ y .onward .rest) = y .onward .these ∙ append-assoc done (y .e ∷ []) (y .onward .rest) in
+    let its = typeds-at done (y .e) (y .onward .rest) (subst (λ (es : List Exp). Typeds (scope w) es (all-typed .0)) these (all-typed .1)) in
+    record { next = y; ty = its .0; typed = its .1 }
 
-  pub exit-first : (q : ℕ) → valuedAt en here (E here) ≡ evaluated.Fault q → valuedAt en at (E at) ≡ evaluated.Fault q
+module _ {w : Work} {done : List Exp} {k at : ℕ} (o : Operand w done k at) where
+  abbrev its : Exp
+  its = o .next .e
+
+  -- what working it out asks: less depth than t, an offset inside, the limits, a type, the values
+  pub asked :
+      {t : ℕ} → w .call .depth ≡ t →
+      (w .call .depth - 1 < t)
+      × ((at ≤ length (w .call .s)) × ((fitsAt (w .call .depth - 1) (readAt w at) ≡ true) × ((isTyped (typedAt (scope w) at (readAt w at)) ≡ true) × EnvFits (w .vs) (w .ts))))
+  asked e =
+      let y = is-typed (scope w) at (readAt w at) (o .next .read) (o .typed) in
+      (omega (arith, e, deep (w .call)), (o .next .inside, (o .next .fits, (y, w .ok))))
+
+  faulted : {q : ℕ} → answerAt w at ≡ evaluated.Fault q → valueOf (env w) its ≡ Fault q
+  faulted y = fault-there (env w) at (readAt w at) (o .next .read) y
+
+  module _ {t : Ty} {z : ℤ} {n : ℕ} (y : answerAt w at ≡ evaluated.Value t z n) where
+    worked : valueOf (env w) its ≡ Value t z
+    worked = value-there (env w) at (readAt w at) (o .next .read) y .0
+
+    ends : at + o .next .n ≡ n
+    ends = value-there (env w) at (readAt w at) (o .next .read) y .1
+
+    pub ends-inside : n ≤ length (w .call .s)
+    ends-inside = omega (arith, ends, o .next .onward .inside)
+
+    pub small : Small t z
+    unfolding fitsAt shallow Sound
+    small =
+        let f : shallow (w .call .depth - 1) its ≡ true = rw (o .next .read) at (o .next .fits) in
+        let g : Sound (valueOf (env w) its) = sound (w .vs) (w .ts) (w .ok) its (o .ty) (and-right (leb (depthOf its) (w .call .depth - 1)) (precise its) f) (o .typed) in
+        rw worked at g
+
+-- ── the first operand ────────────────────────────────────────────────────────────────────────
+
+-- the first operand's value is z, of type t, and it ends at n
+pub record First (w : Work) (t : Ty) (z : ℤ) (n : ℕ) : Type 0 where
+  pub e : Exp
+  pub value : valueOf (envIn (w .vs) (w .ts)) e ≡ Value t z
+  pub small : Small t z
+  pub reached : Reached (w .call) (e ∷ []) (w .call .k - 1) n
+
+module _ {w : Work} {at : ℕ} (o : Operand w [] (w .call .k) at) where
+  pub first : {t : Ty} {z : ℤ} {n : ℕ} → answerAt w at ≡ evaluated.Value t z n → First w t z n
+  first y = record {
+    e = o .next .e;
+    value = worked o y;
+    small = small o y;
+    reached = subst (λ (i : ℕ). Reached (w .call) (o .next .e ∷ []) (w .call .k - 1) i) (ends o y) (o .next .onward);
+  }
+
+  pub exit-first : (q : ℕ) → answerAt w at ≡ evaluated.Fault q → whole w ≡ evaluated.Fault q
   unfolding outcomeAt
   exit-first q y =
-      let n : suc (length (first .rest)) ≡ operands c = sym (ap length (first .these)) ∙ run-length (all .run) in
-      answer (first .e ∷ first .rest) (first .these) (value-fault en (drop at s) c there (first .e) (first .rest) n (fault-there en here (E here) (first .read) y))
+      let x = w .call in
+      let r = o .next .onward in
+      let n : suc (length (r .rest)) ≡ operands (x .c) = sym (ap length (r .these)) ∙ count-all x in
+      answer w (o .next .e ∷ r .rest) (r .these) (value-fault (env w) (w .call) (o .next .e) (r .rest) n (faulted o y))
 
-  module _ (t : Ty) (x : ℤ) (n : ℕ) (a : valuedAt en here (E here) ≡ evaluated.Value t x n) where
-    first-value : valueOf en (first .e) ≡ Value t x
-    first-value = value-there en here (E here) (first .read) a .0
+pub exit-one : {w : Work} {t named : Ty} {z y : ℤ} {n : ℕ} → First w t z n → w .call .k ≡ 1 → named ≡ typeAt (w .call .s) (w .call .at + 1) → y ≡ z → whole w ≡ outcomeAt n (oneValue (w .call .c) named t y)
+exit-one {w} f e q s =
+    let x = w .call in
+    let r = last (f .reached) (omega (arith, e)) in
+    answer w (f .e ∷ []) (r .0) (value-one (env w) (w .call) (f .e) e (f .value)) ∙ rw (r .1, s, q, type-drop (x .at) (x .s) 1)
 
-    -- the type check ends where the value does
-    first-at : typedAt sc here (E here) ≡ typing.Typed (first-has .ty) n
-    first-at =
-        let p = typed-there sc here (E here) (first .read) (first-has .eq) .1 in
-        let q = value-there en here (E here) (first .read) a .1 in
-        first-has .eq ∙ ap (typing.Typed (first-has .ty)) (sym p ∙ q)
+-- ── the second operand that is worked out ────────────────────────────────────────────────────
 
-    pub first-small : Small t x
-    first-small = small-at vs ts ok (d - 1) here (E here) (first .fits) first-at a
+-- the right side, or the branch that the first operand chooses, from f on: what its outcome makes of the whole
+pub record Chosen (w : Work) (t : Ty) (z : ℤ) (f : ℕ) : Type 0 where
+  pub done : List Exp
+  pub left : ℕ
+  pub it : Operand w done left f
+  pub two : w .call .k ≡ 2 → whole w ≡ outcomeAt (f + it .next .n) (then (valueOf (env w) (it .next .e)) (λ v y. apply (w .call .c) t z y))
+  pub three : w .call .k ≡ 3 → whole w ≡ outcomeAt (ifEnd w z (f + it .next .n)) (valueOf (env w) (it .next .e))
 
-    pub exit-one : operands c ≡ 1 → valuedAt en at (E at) ≡ outcomeAt n (cond (eqb c 3) (Value (typeAt (drop at s) 1) (wrap (typeAt (drop at s) 1) x)) (applyOne c t x))
-    exit-one e =
-        let r = run-end (exits.onward sc first first-at .run) (omega arith) in
-        answer (first .e ∷ []) (first .these ∙ ap (λ (i : List Exp). first .e ∷ i) (r .0)) (value-one en (drop at s) c there (first .e) e first-value) ∙ ap (λ (i : ℕ). outcomeAt i (cond (eqb c 3) (Value (typeAt (drop at s) 1) (wrap (typeAt (drop at s) 1) x)) (applyOne c t x))) (r .1)
+module _ {w : Work} {t : Ty} {z : ℤ} {n : ℕ} (g : First w t z n) (l : 0 < w .call .k - 1) where
+  second : Operand w (g .e ∷ []) (w .call .k - 1) n
+  second = operand w (g .reached) l
 
-    module _ (o2 : 0 < operands c - 1) where
-      abbrev second : Step s (d - 1) (operands c - 1) n (first .rest) (at + all .size)
-      second = exits.second s at d c h l g o sc (first-has .ty) n first-at o2
+  abbrev after : ℕ
+  after = n + second .next .n
 
-      pub second-inside : n ≤ length s
-      second-inside = exits.second-fits s at d c h l g o sc (first-has .ty) n first-at o2 .1
+  two-whole : w .call .k ≡ 2 → whole w ≡ outcomeAt after (then (valueOf (env w) (second .next .e)) (λ v y. apply (w .call .c) t z y))
+  two-whole e =
+      let r = last (second .next .onward) (omega (arith, e)) in
+      answer w (g .e ∷ second .next .e ∷ []) (r .0) (value-two (env w) (w .call) (g .e) (second .next .e) e (g .value)) ∙ rw (r .1)
 
-      second-has : Has (typedAt sc n (E n))
-      second-has = has-else (typedAt sc n (E n)) (λ q e. no-ill (typedAt sc at (E at)) q ty (exits.exit-second s at d c h l g o sc (first-has .ty) n first-at o2 q e))
+  module _ (e : w .call .k ≡ 3) where
+    third : Operand w (g .e ∷ second .next .e ∷ []) (w .call .k - 1 - 1) after
+    third = operand w (second .next .onward) (omega (arith, e))
 
-      two-are : all .es ≡ first .e ∷ second .e ∷ second .rest
-      two-are = exits.two-are s at d c h l g o sc (first-has .ty) n first-at o2
+    if-whole : whole w ≡ outcomeAt (after + third .next .n) (cond (not (eqZ z (pos 0))) (valueOf (env w) (second .next .e)) (valueOf (env w) (third .next .e)))
+    if-whole =
+        let r = last (third .next .onward) (omega (arith, e)) in
+        let v = value-if (env w) (w .call) (g .e) (second .next .e) (third .next .e) e (g .value) in
+        answer w (g .e ∷ second .next .e ∷ third .next .e ∷ []) (r .0) v ∙ rw (r .1)
 
-      skip-second : skipTo n (E n) ≡ second-has .next
-      skip-second = skip-there en n (E n) (second .read) ∙ typed-there sc n (E n) (second .read) (second-has .eq) .1
+  chosen-by : (b v : Bool) {f : ℕ} → eqb (w .call .k) 3 ≡ b → eqZ z (pos 0) ≡ v → f ≡ cond (b && v) (skipTo n (readAt w n)) n → Chosen w t z f
+  chosen-by false v p r q = rw q record {
+    done = g .e ∷ [];
+    left = w .call .k - 1;
+    it = second;
+    two = two-whole;
+    three = λ e. absurd (eqb-false (w .call .k) 3 p e);
+  }
+  chosen-by true false p r q = rw q record {
+    done = g .e ∷ [];
+    left = w .call .k - 1;
+    it = second;
+    two = λ e. absurd (omega (arith, e, eqb-true (w .call .k) 3 p));
+    three = λ e. if-whole e ∙ rw (r, skip-there (env w) after (readAt w after) (third e .next .read));
+  }
+  chosen-by true true p r q =
+      let three = eqb-true (w .call .k) 3 p in
+      rw (q ∙ skip-there (env w) n (readAt w n) (second .next .read)) record {
+        done = g .e ∷ second .next .e ∷ [];
+        left = w .call .k - 1 - 1;
+        it = third three;
+        two = λ e. absurd (omega (arith, e, three));
+        three = λ e. if-whole three ∙ rw r;
+      }
 
-      module _ (o3 : operands c ≡ 3) where
-        abbrev third : Step s (d - 1) (operands c - 1 - 1) (second-has .next) (second .rest) (at + all .size)
-        third = exits.third s at d c h l g o sc (first-has .ty) n first-at o2 (second-has .ty) (second-has .next) (second-has .eq) o3
+  pub chosen : {f : ℕ} {y : ℤ} → y ≡ z → f ≡ cond (eqb (w .call .k) 3 && eqZ y (pos 0)) (skipTo n (readAt w n)) n → Chosen w t z f
+  chosen s q = chosen-by (eqb (w .call .k) 3) (eqZ z (pos 0)) refl refl (rw s at q)
 
-        third-inside : second-has .next ≤ length s
-        third-inside = exits.third-fits s at d c h l g o sc (first-has .ty) n first-at o2 (second-has .ty) (second-has .next) (second-has .eq) o3 .1
+module _ {w : Work} {t : Ty} {z : ℤ} {f : ℕ} (g : Chosen w t z f) where
+  pub exit-second : (q : ℕ) → 0 < w .call .k - 1 → answerAt w f ≡ evaluated.Fault q → whole w ≡ evaluated.Fault q
+  unfolding outcomeAt then
+  exit-second q l a = go (two-or-three (w .call) l)
+    where
+      go : ((w .call .k ≡ 2) ⊎ (w .call .k ≡ 3)) → whole w ≡ evaluated.Fault q
+      go (inl e) = g .two e ∙ rw (faulted (g .it) a)
+      go (inr e) = g .three e ∙ rw (faulted (g .it) a)
 
-        third-has : Has (typedAt sc (second-has .next) (E (second-has .next)))
-        third-has = has-else (typedAt sc (second-has .next) (E (second-has .next))) (λ q e. no-ill (typedAt sc at (E at)) q ty (exits.exit-third s at d c h l g o sc (first-has .ty) n first-at o2 (second-has .ty) (second-has .next) (second-has .eq) o3 q e))
+  module _ {u : Ty} {y : ℤ} {m : ℕ} (a : answerAt w f ≡ evaluated.Value u y m) where
+    pub exit-two : {i j : ℤ} → w .call .k ≡ 2 → i ≡ z → j ≡ y → whole w ≡ outcomeAt m (apply (w .call .c) t i j)
+    unfolding then
+    exit-two e p q = g .two e ∙ rw (worked (g .it) a, ends (g .it) a, p, q)
 
-        three-are : all .es ≡ first .e ∷ second .e ∷ third .e ∷ []
-        three-are = exits.three-are s at d c h l g o sc (first-has .ty) n first-at o2 (second-has .ty) (second-has .next) (second-has .eq) o3
-
-        if-is : valuedAt en at (E at) ≡ outcomeAt (at + all .size) (cond (not (eqZ x (pos 0))) (valueOf en (second .e)) (valueOf en (third .e)))
-        if-is = answer (first .e ∷ second .e ∷ third .e ∷ []) three-are (value-if en (drop at s) c there (first .e) (second .e) (third .e) o3 first-value)
-
-        if-ends : second-has .next + third .n ≡ at + all .size
-        if-ends = sym (run-end (third .ahead .run) (omega arith) .1)
-
-      -- the second operand to work out
-      pub site : (f : ℕ) → f ≡ cond (eqb (operands c) 3 && eqZ x (pos 0)) (skipTo n (E n)) n → (f ≤ length s) × ((fitsAt (d - 1) (E f) ≡ true) × (isTyped (typedAt sc f (E f)) ≡ true))
-      site f e = go (eqb (operands c) 3) (eqZ x (pos 0)) refl e
-        where
-          plain : f ≡ n → (f ≤ length s) × ((fitsAt (d - 1) (E f) ≡ true) × (isTyped (typedAt sc f (E f)) ≡ true))
-          plain q = rw q (second-inside, (second .fits, has-typed second-has))
-
-          go : (b z : Bool) → eqb (operands c) 3 ≡ b → f ≡ cond (b && z) (skipTo n (E n)) n → (f ≤ length s) × ((fitsAt (d - 1) (E f) ≡ true) × (isTyped (typedAt sc f (E f)) ≡ true))
-          go false z p q = plain q
-          go true false p q = plain q
-          go true true p q =
-              let three = eqb-true (operands c) 3 p in
-              rw (q ∙ skip-second) (third-inside three, (third three .fits, has-typed (third-has three)))
-
-      -- the branch that is worked out, or the right side, faults
-      pub exit-second : (f q : ℕ) → f ≡ cond (eqb (operands c) 3 && eqZ x (pos 0)) (skipTo n (E n)) n → valuedAt en f (E f) ≡ evaluated.Fault q → valuedAt en at (E at) ≡ evaluated.Fault q
-      unfolding outcomeAt then
-      exit-second f q e y = go (eqb (operands c) 3) (eqZ x (pos 0)) refl refl e
-        where
-          two-go : eqb (operands c) 3 ≡ false → f ≡ n → valuedAt en at (E at) ≡ evaluated.Fault q
-          two-go p i =
-              let w : valuedAt en n (E n) ≡ evaluated.Fault q = rw i at y in
-              let two = two-is (operands c) o o2 (at-most-three c) (eqb-false (operands c) 3 p) in
-              let r = run-end (second .ahead .run) (omega arith) in
-              answer {x = Fault q} (first .e ∷ second .e ∷ []) (two-are ∙ ap (λ (i : List Exp). first .e ∷ second .e ∷ i) (r .0)) (value-two en (drop at s) c there (first .e) (second .e) two first-value ∙ rw (fault-there en n (E n) (second .read) w))
-
-          go : (b z : Bool) → eqb (operands c) 3 ≡ b → eqZ x (pos 0) ≡ z → f ≡ cond (b && z) (skipTo n (E n)) n → valuedAt en at (E at) ≡ evaluated.Fault q
-          go false z p v i = two-go p i
-          go true false p v i =
-              let three = eqb-true (operands c) 3 p in
-              let w : valuedAt en n (E n) ≡ evaluated.Fault q = rw i at y in
-              if-is three ∙ rw (v, fault-there en n (E n) (second .read) w)
-          go true true p v i =
-              let three = eqb-true (operands c) 3 p in
-              let m = second-has .next in
-              let w : valuedAt en m (E m) ≡ evaluated.Fault q = rw (i ∙ skip-second) at y in
-              if-is three ∙ rw (v, fault-there en m (E m) (third three .read) w)
-
-      module _ (u : Ty) (y : ℤ) (m : ℕ) where
-        pub exit-two : operands c ≡ 2 → valuedAt en n (E n) ≡ evaluated.Value u y m → Small u y × (valuedAt en at (E at) ≡ outcomeAt m (apply c t x y))
-        unfolding then
-        exit-two e w =
-            let v = value-there en n (E n) (second .read) w in
-            let r = run-end (second .ahead .run) (omega arith) in (
-              small-at vs ts ok (d - 1) n (E n) (second .fits) (second-has .eq) w,
-              answer {x = apply c t x y} (first .e ∷ second .e ∷ []) (two-are ∙ ap (λ (i : List Exp). first .e ∷ second .e ∷ i) (r .0)) (value-two en (drop at s) c there (first .e) (second .e) e first-value ∙ rw (v .0)) ∙ ap (λ (i : ℕ). outcomeAt i (apply c t x y)) (r .1 ∙ v .1),
-            )
-
-        -- the branch worked out is one of two: where the if ends
-        pub exit-if : (f z : ℕ) → operands c ≡ 3 → f ≡ cond (eqZ x (pos 0)) (skipTo n (E n)) n → valuedAt en f (E f) ≡ evaluated.Value u y m → (m ≤ length s) × (z ≡ cond (eqZ x (pos 0)) m (skipTo m (E m)) → valuedAt en at (E at) ≡ evaluated.Value u y z)
-        unfolding outcomeAt
-        exit-if f z o3 e w = go (eqZ x (pos 0)) refl e
-          where
-            go : (b : Bool) → eqZ x (pos 0) ≡ b → f ≡ cond b (skipTo n (E n)) n → (m ≤ length s) × (z ≡ cond (eqZ x (pos 0)) m (skipTo m (E m)) → valuedAt en at (E at) ≡ evaluated.Value u y z)
-            go false p i =
-                let v = value-there en n (E n) (second .read) (rw i at w) in
-                let k : second-has .next ≡ m = sym (typed-there sc n (E n) (second .read) (second-has .eq) .1) ∙ v .1 in
-                let q : expression (drop m s) ≡ got (third o3 .e) (third o3 .n) = subst (λ (i : ℕ). expression (drop i s) ≡ got (third o3 .e) (third o3 .n)) k (third o3 .read) in (
-                  subst (λ (i : ℕ). i ≤ length s) k (third-inside o3),
-                  (λ j. if-is o3 ∙ rw (p, v .0) (ap (evaluated.Value u y) (sym (if-ends o3) ∙ ap (λ (i : ℕ). i + third o3 .n) k ∙ sym (rw p at j ∙ skip-there en m (E m) q)))),
-                )
-            go true p i =
-                let k = second-has .next in
-                let v = value-there en k (E k) (third o3 .read) (rw (i ∙ skip-second) at w) in (
-                  omega (arith, third o3 .ahead .inside, v .1),
-                  (λ j. if-is o3 ∙ rw (p, v .0) (ap (evaluated.Value u y) (sym (if-ends o3) ∙ v .1 ∙ sym (rw p at j)))),
-                )
-
-        pub if-small : (f : ℕ) → operands c ≡ 3 → f ≡ cond (eqZ x (pos 0)) (skipTo n (E n)) n → valuedAt en f (E f) ≡ evaluated.Value u y m → Small u y
-        if-small f o3 e w = go (eqZ x (pos 0)) e
-          where
-            go : (b : Bool) → f ≡ cond b (skipTo n (E n)) n → Small u y
-            go false i = small-at vs ts ok (d - 1) n (E n) (second .fits) (second-has .eq) (rw i at w)
-            go true i = let k = second-has .next in small-at vs ts ok (d - 1) k (E k) (third o3 .fits) (third-has o3 .eq) (rw (i ∙ skip-second) at w)
+    pub exit-if : {i j : ℤ} {to : ℕ} → w .call .k ≡ 3 → i ≡ z → j ≡ y → to ≡ ifEnd w i m → evaluated.Value u j to ≡ whole w
+    unfolding outcomeAt
+    exit-if e p q r = rw (r, p, q) (sym (g .three e ∙ rw (worked (g .it) a, ends (g .it) a)))

@@ -1,19 +1,19 @@
 -- The limits of an expression from those of its operands, read one after another.
 -- Assumes nothing.
 use mathlib.Core.Path.{_≡_, refl, sym, ap, _∙_}
-use mathlib.Core.Bool.{Bool, true, false, not, cond, _&&_, _||_}
+use mathlib.Core.Bool.{Bool, true, false, not, cond, _&&_}
 use mathlib.Core.List.{List, [], _∷_}
 use Prim.Native.Nat.{ℕ, zero, suc, _+_, _-_, _≤_, _<_, max}
 use native.Mathlib.Nat.{le-max-left, le-max-right, max-le}
 use native.Mathlib.Omega.{arith}
-use lib.Dec.{leb, ltb, eqb, leb·suc-suc}
+use lib.Dec.{leb, eqb, leb·suc-suc}
 use lib.ListN.{getD, drop, length, length-drop}
 use lib.Seq.{drop-drop}
-use borrow.Author.Tests.{le-leb, lt-leb, leb-true, leb-false, eqb-true, eqb-false, ne-eqb, eq-eqb}
+use borrow.Author.Tests.{le-leb, lt-leb, leb-true, leb-false, eqb-true, eqb-false, ne-eqb}
 use Rattle.model.specs.Values.{inPrecision}
 use Rattle.model.specs.Expressions.{Exp, literal, matched, variable, cast, one, two, if, Read, bad, got, after, readMany, headSize, operands, headFits, provided, typeAt, build, readExp, expression, depthOf, precise, expressionLimits}
 use Rattle.expressions.specs.Reading.{preciseHead, shallow, limitsAt, limitsRead}
-use Rattle.expressions.proofs.Reading.{no-exp, some-exp, head-pos, behind}
+use Rattle.expressions.proofs.Reading.{joined, others, headed, no-exp, some-exp, head-pos, behind}
 use Rattle.expressions.proofs.Heads.{fits-whole}
 use Rattle.expressions.proofs.Shapes.{no-operand, one-operand, two-operands, three-operands, at-most-three, build-literal, build-matched, build-variable, build-cast, build-one, build-two, build-if}
 
@@ -78,7 +78,8 @@ module _ (d : ℕ) where
   three-deep : (c e f : Exp) → (leb (suc (max (depthOf c) (max (depthOf e) (depthOf f)))) (suc d) && ((precise c && precise e) && precise f)) ≡ (shallow d c && (shallow d e && (shallow d f && true)))
   unfolding shallow
   three-deep c e f =
-      rw (leb·suc-suc (max (depthOf c) (max (depthOf e) (depthOf f))) d, leb-max (depthOf c) (max (depthOf e) (depthOf f)) d, leb-max (depthOf e) (depthOf f) d, and-true (leb (depthOf f) d && precise f), and-assoc (precise c) (precise e) (precise f))
+      let m = max (depthOf e) (depthOf f) in
+      rw (leb·suc-suc (max (depthOf c) m) d, leb-max (depthOf c) m d, leb-max (depthOf e) (depthOf f) d, and-true (leb (depthOf f) d && precise f), and-assoc (precise c) (precise e) (precise f))
       (and-swap (leb (depthOf c) d) (leb (depthOf e) d && leb (depthOf f) d) (precise c) (precise e && precise f)
       ∙ ap (λ (b : Bool). (leb (depthOf c) d && precise c) && b) (and-swap (leb (depthOf e) d) (leb (depthOf f) d) (precise e) (precise f)))
 
@@ -119,12 +120,12 @@ All P bad = Unit {0}
 All P (got a n) = P a n
 
 module _ (f : List ℕ → Read Exp) where
-  sized-got : (k n : ℕ) (a : Exp) (r : Read (List Exp)) → All (λ es m. length es ≡ k) r → All (λ es m. length es ≡ suc k) (after r (λ rest m. got (a ∷ rest) (n + m)))
+  sized-got : (k n : ℕ) (a : Exp) (r : Read (List Exp)) → All (λ es m. length es ≡ k) r → All (λ es m. length es ≡ suc k) (joined a n r)
   unfolding All after
   sized-got k n a bad h = tt
   sized-got k n a (got es m) h = omega arith
 
-  sized-go : (k : ℕ) (s : List ℕ) (r : Read Exp) → ((u : List ℕ) → All (λ es m. length es ≡ k) (readMany f k u)) → All (λ es m. length es ≡ suc k) (after r (λ a n. after (readMany f k (drop n s)) (λ rest m. got (a ∷ rest) (n + m))))
+  sized-go : (k : ℕ) (s : List ℕ) (r : Read Exp) → ((u : List ℕ) → All (λ es m. length es ≡ k) (readMany f k u)) → All (λ es m. length es ≡ suc k) (others f k s r)
   unfolding All after
   sized-go k s bad h = tt
   sized-go k s (got a n) h = sized-got k n a (readMany f k (drop n s)) (h (drop n s))
@@ -134,12 +135,12 @@ module _ (f : List ℕ → Read Exp) where
   sized zero s = refl
   sized (suc k) s = sized-go k s (f s) (sized k)
 
-  within-got : (l n : ℕ) (a : Exp) (r : Read (List Exp)) → n ≤ l → All (λ es m. m ≤ l - n) r → All (λ es m. m ≤ l) (after r (λ rest m. got (a ∷ rest) (n + m)))
+  within-got : (l n : ℕ) (a : Exp) (r : Read (List Exp)) → n ≤ l → All (λ es m. m ≤ l - n) r → All (λ es m. m ≤ l) (joined a n r)
   unfolding All after
   within-got l n a bad g h = tt
   within-got l n a (got es m) g h = omega arith
 
-  within-go : (k : ℕ) (s : List ℕ) (r : Read Exp) → All (λ e n. n ≤ length s) r → ((u : List ℕ) → All (λ es m. m ≤ length u) (readMany f k u)) → All (λ es m. m ≤ length s) (after r (λ a n. after (readMany f k (drop n s)) (λ rest m. got (a ∷ rest) (n + m))))
+  within-go : (k : ℕ) (s : List ℕ) (r : Read Exp) → All (λ e n. n ≤ length s) r → ((u : List ℕ) → All (λ es m. m ≤ length u) (readMany f k u)) → All (λ es m. m ≤ length s) (others f k s r)
   unfolding All after
   within-go k s bad g h = tt
   within-go k s (got a n) g h = within-got (length s) n a (readMany f k (drop n s)) g (rw (length-drop n s) at (h (drop n s)))
@@ -153,7 +154,7 @@ module _ (f : List ℕ → Read Exp) where
 abbrev pub Bounded : List ℕ → Read Exp → Type 0
 Bounded s r = All (λ e n. (1 ≤ n) × (n ≤ length s)) r
 
-bounded-got : (s : List ℕ) (h : ℕ) (f : List Exp → Exp) (r : Read (List Exp)) → 1 ≤ h → h ≤ length s → All (λ es m. m ≤ length s - h) r → Bounded s (after r (λ es n. got (f es) (h + n)))
+bounded-got : (s : List ℕ) (h : ℕ) (f : List Exp → Exp) (r : Read (List Exp)) → 1 ≤ h → h ≤ length s → All (λ es m. m ≤ length s - h) r → Bounded s (headed f h r)
 unfolding All after
 bounded-got s h f bad p l a = tt
 bounded-got s h f (got es m) p l a = (omega arith, omega arith)
@@ -173,8 +174,10 @@ unfolding All readExp
 bounded-at zero s = tt
 bounded-at (suc d) s =
     let c = getD s 0 0 in
+    let v = drop (headSize c) s in
+    let w = within-many (λ u. readExp d u) (λ u. second-all (readExp d u) (length u) (bounded-at d u)) (operands c) v in
     bounded-if (headFits s) s (behind (λ u. readExp d u) s) refl
-    (λ e. bounded-got s (headSize c) (build s) (readMany (λ u. readExp d u) (operands c) (drop (headSize c) s)) (head-pos c) (omega (arith, fits-whole s 0 c refl e (omega arith))) (rw (length-drop (headSize c) s) at (within-many (λ u. readExp d u) (λ u. second-all (readExp d u) (length u) (bounded-at d u)) (operands c) (drop (headSize c) s))))
+    (λ e. bounded-got s (headSize c) (build s) (readMany (λ u. readExp d u) (operands c) v) (head-pos c) (omega (arith, fits-whole s 0 c refl e (omega arith))) (rw (length-drop (headSize c) s) at w))
 
 pub bounded : (s : List ℕ) → Bounded s (expression s)
 unfolding expression
@@ -195,7 +198,7 @@ cond-zero true = refl
 cond-zero false = refl
 
 module _ (d : ℕ) (s : List ℕ) where
-  many-got : (b : Bool) (r : Read (List Exp)) (a : Exp) (at n : ℕ) → shallow d a ≡ b → limitsMany at d (after r (λ rest m. got (a ∷ rest) (n + m))) ≡ cond b (limitsMany (at + n) d r) 0
+  many-got : (b : Bool) (r : Read (List Exp)) (a : Exp) (at n : ℕ) → shallow d a ≡ b → limitsMany at d (joined a n r) ≡ cond b (limitsMany (at + n) d r) 0
   unfolding limitsMany after allShallow
   many-got b bad a at n e = sym (cond-zero b)
   many-got true (got es m) a at n e = rw e (ap (λ (k : ℕ). cond (allShallow d es) k 0) sum)
@@ -205,21 +208,21 @@ module _ (d : ℕ) (s : List ℕ) where
   many-got false (got es m) a at n e = rw e
 
   -- by what the first of them gives
-  first-bad : (b : Bool) (k at : ℕ) (r : Read Exp) → All (λ e n. (1 ≤ n) × (n ≤ length (drop at s))) r → limitsAt at d r ≡ 0 → limitsMany at d (after r (λ a n. after (readMany expression k (drop n (drop at s))) (λ rest m. got (a ∷ rest) (n + m)))) ≡ 0
+  first-bad : (b : Bool) (k at : ℕ) (r : Read Exp) → All (λ e n. (1 ≤ n) × (n ≤ length (drop at s))) r → limitsAt at d r ≡ 0 → limitsMany at d (others expression k (drop at s) r) ≡ 0
   unfolding limitsAt limitsMany after All
   first-bad b k at bad h e = refl
   first-bad b k at (got a n) h e = go (shallow d a) refl
     where
-      go : (b : Bool) → shallow d a ≡ b → limitsMany at d (after (readMany expression k (drop n (drop at s))) (λ rest m. got (a ∷ rest) (n + m))) ≡ 0
+      go : (b : Bool) → shallow d a ≡ b → limitsMany at d (joined a n (readMany expression k (drop n (drop at s)))) ≡ 0
       go true f = absurd (omega (arith, rw f at e))
       go false f = many-got false (readMany expression k (drop n (drop at s))) a at n f
 
-  first-good : (k at m : ℕ) (r : Read Exp) → limitsAt at d r ≡ m → (m ≡ 0 → ⊥) → limitsMany at d (after r (λ a n. after (readMany expression k (drop n (drop at s))) (λ rest m. got (a ∷ rest) (n + m)))) ≡ limitsFrom k d m s
+  first-good : (k at m : ℕ) (r : Read Exp) → limitsAt at d r ≡ m → (m ≡ 0 → ⊥) → limitsMany at d (others expression k (drop at s) r) ≡ limitsFrom k d m s
   unfolding limitsAt limitsMany limitsFrom after
   first-good k at m bad e h = absurd (h (sym e))
   first-good k at m (got a n) e h = go (shallow d a) refl
     where
-      go : (b : Bool) → shallow d a ≡ b → limitsMany at d (after (readMany expression k (drop n (drop at s))) (λ rest m. got (a ∷ rest) (n + m))) ≡ limitsFrom k d m s
+      go : (b : Bool) → shallow d a ≡ b → limitsMany at d (joined a n (readMany expression k (drop n (drop at s)))) ≡ limitsFrom k d m s
       go true f = let q : at + n ≡ m = rw f at e in many-got true (readMany expression k (drop n (drop at s))) a at n f ∙ rw (drop-drop n at s, q)
       go false f = absurd (h (sym (rw f at e)))
 
@@ -270,7 +273,9 @@ no-depth at bad = refl
 no-depth at (got e n) = rw (lt-leb (depthOf e) 0 (depth-pos e))
 
 module _ (d : ℕ) (s : List ℕ) (at c : ℕ) (h : getD (drop at s) 0 0 ≡ c) (fits : headFits (drop at s) ≡ true) where
-  limits-built : (b : Bool) (u : List ℕ) (r : Read (List Exp)) → getD u 0 0 ≡ c → preciseHead u ≡ b → All (λ es n. length es ≡ operands c) r → limitsAt at (suc d) (after r (λ es n. got (build u es) (headSize c + n))) ≡ cond b (limitsMany (at + headSize c) d r) 0
+  limits-built :
+      (b : Bool) (u : List ℕ) (r : Read (List Exp)) → getD u 0 0 ≡ c → preciseHead u ≡ b → All (λ es n. length es ≡ operands c) r →
+      limitsAt at (suc d) (headed (build u) (headSize c) r) ≡ cond b (limitsMany (at + headSize c) d r) 0
   unfolding limitsAt limitsMany after All
   limits-built b u bad g e l = sym (cond-zero b)
   limits-built true u (got es n) g e l = rw (built d u c g es l, e) (ap (λ (k : ℕ). cond (allShallow d es) k 0) sum)

@@ -1,17 +1,19 @@
 -- The head of an expression at an offset: which code it has, and whether it is whole.
 -- Assumes nothing.
 use mathlib.Core.Path.{_≡_, refl, sym, ap, _∙_}
-use mathlib.Core.Bool.{Bool, true, false, not, cond, _&&_, _||_}
-use mathlib.Core.List.{List, [], _∷_}
-use Prim.Native.Nat.{ℕ, zero, suc, _+_, _-_, _≤_, _<_}
+use mathlib.Core.Bool.{Bool, true, false, _&&_, _||_}
+use mathlib.Core.List.{List}
+use Prim.Native.Nat.{ℕ, _+_, _-_, _≤_, _<_}
 use native.Mathlib.Nat.{add-zero}
 use native.Mathlib.Omega.{arith}
 use lib.Dec.{leb, ltb, eqb}
-use lib.ListN.{getD, drop, length, length-drop, List·getD-eq-default}
+use lib.ListN.{getD, drop, length, length-drop}
 use lib.Seq.{getD-drop}
-use borrow.Author.Tests.{le-leb, lt-leb, lt-ltb, le-ltb, eq-eqb, ne-eqb, leb-true, ltb-true}
+use borrow.Author.Tests.{le-leb, lt-leb, lt-ltb, leb-true, ltb-true}
+use Rattle.model.specs.declared.Ty.{Ty}
 use Rattle.model.specs.Values.{inPrecision}
-use Rattle.model.specs.Expressions.{headSize, operands, knownCode, knownKind, headFits, typeAt}
+use Rattle.model.specs.Expressions.{headSize, knownCode, knownKind, headFits, typeAt}
+use Rattle.model.proofs.Tests.{and-left, and-right}
 use Rattle.expressions.specs.Reading.{preciseHead}
 use Rattle.expressions.proofs.Reading.{no-head, head-pos}
 
@@ -53,6 +55,14 @@ module _ (s : List ℕ) (at c : ℕ) (h : c ≡ getD s at 0) where
     where
       two : at + 2 ≡ at + 1 + 1
       two = omega arith
+
+  -- which is 1 to 30
+  pub named-precise : {t : Ty} → (eqb c 0 || eqb c 3) ≡ true → preciseHead (drop at s) ≡ true → t ≡ typeAt s (at + 1) → (1 ≤ t .p) × (t .p ≤ 62)
+  unfolding inPrecision
+  named-precise {t} n p q =
+      let w : (leb 1 (t .p) && leb (t .p) 30) ≡ true = rw q (sym (precise-named n) ∙ p) in
+      let high = leb-true (t .p) 30 (and-right (leb 1 (t .p)) (leb (t .p) 30) w) in
+      (leb-true 1 (t .p) (and-left (leb 1 (t .p)) (leb (t .p) 30) w), omega arith)
 
   pub precise-plain : (eqb c 0 || eqb c 3) ≡ false → preciseHead (drop at s) ≡ true
   unfolding preciseHead

@@ -1,18 +1,18 @@
 -- An expression that keeps the limits, taken apart: its head, and its operands at their offsets. And the size of one that was read.
 -- Assumes nothing.
-use mathlib.Core.Path.{_≡_, refl, sym, ap, _∙_, subst}
-use mathlib.Core.Bool.{Bool, true, false, cond, _&&_}
-use mathlib.Core.List.{List, [], _∷_}
-use Prim.Native.Nat.{ℕ, zero, suc, _+_, _-_, _≤_, _<_}
+use mathlib.Core.Path.{_≡_, refl, sym, _∙_, subst}
+use mathlib.Core.Bool.{Bool, true, false, _&&_}
+use mathlib.Core.List.{List, [], _∷_, _++_}
+use Prim.Native.Nat.{ℕ, zero, suc, _+_, _-_, _≤_}
 use native.Mathlib.Omega.{arith}
-use lib.Dec.{leb, eqb}
+use lib.Dec.{eqb}
 use lib.ListN.{getD, drop, length}
 use lib.Seq.{drop-drop}
-use borrow.Author.Tests.{le-leb, lt-leb, eqb-true, eqb-false, ne-eqb, eq-eqb}
+use borrow.Author.Tests.{le-leb, lt-leb, eqb-true, eqb-false, ne-eqb}
 use Rattle.model.specs.Expressions.{Exp, Read, bad, got, after, readMany, headSize, operands, headFits, provided, build, readExp, expression, depthOf, sizeOf}
 use Rattle.model.proofs.Tests.{and-left, and-right}
 use Rattle.expressions.specs.Reading.{preciseHead, shallow, fitsAt}
-use Rattle.expressions.proofs.Reading.{no-exp, some-exp, behind}
+use Rattle.expressions.proofs.Reading.{joined, others, headed, no-exp, some-exp}
 use Rattle.expressions.proofs.Depths.{allShallow, built, All, sized, depth-pos, two-left, four-up}
 use Rattle.expressions.proofs.Shapes.{no-operand, one-operand, two-operands, three-operands, at-most-three, build-literal, build-matched, build-variable, build-cast, build-one, build-two, build-if}
 
@@ -27,14 +27,14 @@ module _ (s : List ℕ) where
   abbrev Runs : ℕ → ℕ → Read (List Exp) → Type 0
   Runs k at r = All (λ es n. Run s k at es (at + n)) r
 
-  run-got : (k at n : ℕ) (e : Exp) (r : Read (List Exp)) → expression (drop at s) ≡ got e n → Runs k (at + n) r → Runs (suc k) at (after r (λ rest m. got (e ∷ rest) (n + m)))
+  run-got : (k at n : ℕ) (e : Exp) (r : Read (List Exp)) → expression (drop at s) ≡ got e n → Runs k (at + n) r → Runs (suc k) at (joined e n r)
   unfolding All after
   run-got k at n e bad x h = tt
   run-got k at n e (got es m) x h =
       let q : at + n + m ≡ at + (n + m) = omega arith in
       more x (rw q at h)
 
-  run-go : (k at : ℕ) (r : Read Exp) → expression (drop at s) ≡ r → ((to : ℕ) → Runs k to (readMany expression k (drop to s))) → Runs (suc k) at (after r (λ a n. after (readMany expression k (drop n (drop at s))) (λ rest m. got (a ∷ rest) (n + m))))
+  run-go : (k at : ℕ) (r : Read Exp) → expression (drop at s) ≡ r → ((to : ℕ) → Runs k to (readMany expression k (drop to s))) → Runs (suc k) at (others expression k (drop at s) r)
   unfolding All after
   run-go k at bad x h = tt
   run-go k at (got e n) x h = rw (drop-drop n at s) (run-got k at n e (readMany expression k (drop (at + n) s)) x (h (at + n)))
@@ -65,7 +65,9 @@ module _ (s : List ℕ) (at c : ℕ) (h : getD (drop at s) 0 0 ≡ c) where
       let b : (preciseHead (drop at s) && allShallow d es) ≡ true = sym (built d (drop at s) c h es l) ∙ e in
       (omega arith, (rw q at (and-right (preciseHead (drop at s)) (allShallow d es) b), and-left (preciseHead (drop at s)) (allShallow d es) b))
 
-  parts-got : (d : ℕ) (r : Read (List Exp)) → headFits (drop at s) ≡ true → expression (drop at s) ≡ after r (λ es n. got (build (drop at s) es) (headSize c + n)) → All (λ es n. length es ≡ operands c) r → All (λ es n. Run s (operands c) (at + headSize c) es (at + headSize c + n)) r → fitsAt d (expression (drop at s)) ≡ true → Parts s at d c
+  parts-got :
+      (d : ℕ) (r : Read (List Exp)) → headFits (drop at s) ≡ true → expression (drop at s) ≡ headed (build (drop at s)) (headSize c) r →
+      All (λ es n. length es ≡ operands c) r → All (λ es n. Run s (operands c) (at + headSize c) es (at + headSize c + n)) r → fitsAt d (expression (drop at s)) ≡ true → Parts s at d c
   unfolding All after fitsAt
   parts-got d bad w x l r f = absurd (let z : _≡_ {A = Bool} false true = rw x at f in let w : _≡_ {A = ℕ} 0 1 = cc in omega arith)
   parts-got d (got es n) w x l r f =
@@ -86,9 +88,14 @@ module _ (s : List ℕ) (at c : ℕ) (h : getD (drop at s) 0 0 ≡ c) where
 
 -- ── size ─────────────────────────────────────────────────────────────────────────────────────
 
-unfoldable sizes : List Exp → ℕ
+unfoldable pub sizes : List Exp → ℕ
 sizes [] = 0
 sizes (e ∷ es) = sizeOf e + sizes es
+
+pub sizes-append : (es fs : List Exp) → sizes (es ++ fs) ≡ sizes es + sizes fs
+unfolding sizes
+sizes-append [] fs = omega arith
+sizes-append (e ∷ es) fs = omega (arith, sizes-append es fs)
 
 module _ (s : List ℕ) (c : ℕ) (h : getD s 0 0 ≡ c) where
   size-none : (a b : Bool) → eqb c 0 ≡ a → eqb c 1 ≡ b → c ≤ 2 → sizeOf (build s []) ≡ headSize c + 0
@@ -119,12 +126,12 @@ module _ (s : List ℕ) (c : ℕ) (h : getD s 0 0 ≡ c) where
   size-built (x ∷ y ∷ z ∷ w ∷ es) e = absurd (omega (arith, at-most-three c))
 
 module _ (f : List ℕ → Read Exp) (good : (u : List ℕ) → All (λ e n. sizeOf e ≡ n) (f u)) where
-  sum-got : (n : ℕ) (a : Exp) (r : Read (List Exp)) → sizeOf a ≡ n → All (λ es m. sizes es ≡ m) r → All (λ es m. sizes es ≡ m) (after r (λ rest m. got (a ∷ rest) (n + m)))
+  sum-got : (n : ℕ) (a : Exp) (r : Read (List Exp)) → sizeOf a ≡ n → All (λ es m. sizes es ≡ m) r → All (λ es m. sizes es ≡ m) (joined a n r)
   unfolding All after sizes
   sum-got n a bad e h = tt
   sum-got n a (got es m) e h = rw (e, h)
 
-  sum-go : (k : ℕ) (s : List ℕ) (r : Read Exp) → All (λ e n. sizeOf e ≡ n) r → ((u : List ℕ) → All (λ es m. sizes es ≡ m) (readMany f k u)) → All (λ es m. sizes es ≡ m) (after r (λ a n. after (readMany f k (drop n s)) (λ rest m. got (a ∷ rest) (n + m))))
+  sum-go : (k : ℕ) (s : List ℕ) (r : Read Exp) → All (λ e n. sizeOf e ≡ n) r → ((u : List ℕ) → All (λ es m. sizes es ≡ m) (readMany f k u)) → All (λ es m. sizes es ≡ m) (others f k s r)
   unfolding All after
   sum-go k s bad e h = tt
   sum-go k s (got a n) e h = sum-got n a (readMany f k (drop n s)) e (h (drop n s))
@@ -134,7 +141,9 @@ module _ (f : List ℕ → Read Exp) (good : (u : List ℕ) → All (λ e n. siz
   sum-many zero s = refl
   sum-many (suc k) s = sum-go k s (f s) (good s) (sum-many k)
 
-size-got : (s : List ℕ) (c : ℕ) (b : Bool) (r : Read (List Exp)) → getD s 0 0 ≡ c → All (λ es n. length es ≡ operands c) r → All (λ es n. sizes es ≡ n) r → All (λ e n. sizeOf e ≡ n) (provided b (after r (λ es n. got (build s es) (headSize c + n))))
+size-got :
+    (s : List ℕ) (c : ℕ) (b : Bool) (r : Read (List Exp)) → getD s 0 0 ≡ c → All (λ es n. length es ≡ operands c) r → All (λ es n. sizes es ≡ n) r →
+    All (λ e n. sizeOf e ≡ n) (provided b (headed (build s) (headSize c) r))
 unfolding All after provided
 size-got s c false r h l m = tt
 size-got s c true bad h l m = tt

@@ -1,14 +1,14 @@
 -- Reading an expression: one step of it, the same for every bound that its bytes do not pass, and its size.
 -- Assumes nothing.
 use mathlib.Core.Path.{_≡_, refl, sym, ap, _∙_}
-use mathlib.Core.Bool.{Bool, true, false, not, cond, _&&_, _||_}
-use mathlib.Core.List.{List, [], _∷_}
+use mathlib.Core.Bool.{Bool, true, false, cond}
+use mathlib.Core.List.{List, _∷_}
 use Prim.Native.Nat.{ℕ, zero, suc, _+_, _-_, _≤_, _<_}
 use native.Mathlib.Omega.{arith}
-use lib.Dec.{leb, ltb, eqb}
+use lib.Dec.{leb, eqb}
 use lib.ListN.{getD, drop, length, length-drop}
 use lib.Seq.{drop-drop}
-use borrow.Author.Tests.{le-leb, lt-leb, le-ltb, eq-eqb, ne-eqb, leb-true, leb-false, eqb-true, eqb-false}
+use borrow.Author.Tests.{le-ltb}
 use Rattle.model.specs.Expressions.{Exp, Read, bad, got, after, readMany, headSize, operands, headFits, build, provided, readExp, expression}
 use Rattle.expressions.specs.declared.Form.{Form}
 use Rattle.expressions.specs.declared.Form.the-variants.{Bytes, Malformed}
@@ -32,6 +32,17 @@ no-head s e = rw (le-ltb 0 (length s) (omega arith))
 
 -- ── many, one after another ──────────────────────────────────────────────────────────────────
 
+-- one thing before the others; and the others read behind it
+abbrev pub joined : Exp → ℕ → Read (List Exp) → Read (List Exp)
+joined a n r = after r (λ rest m. got (a ∷ rest) (n + m))
+
+abbrev pub others : (List ℕ → Read Exp) → ℕ → List ℕ → Read Exp → Read (List Exp)
+others f k s r = after r (λ a n. joined a n (readMany f k (drop n s)))
+
+-- what is made of them behind a head of h bytes
+abbrev pub headed : (List Exp → Exp) → ℕ → Read (List Exp) → Read Exp
+headed f h r = after r (λ es n. got (f es) (h + n))
+
 after-cong : {A B : Type 0} (r : Read A) (f g : A → ℕ → Read B) → ((a : A) (n : ℕ) → f a n ≡ g a n) → after r f ≡ after r g
 unfolding after
 after-cong bad f g h = refl
@@ -42,17 +53,17 @@ unfolding readMany
 many-cong f g zero l s h b = refl
 many-cong f g (suc k) l s h b =
     rw (h s b)
-    (after-cong (g s) _ _ (λ a n. ap (λ (q : Read (List Exp)). after q (λ rest m. got (a ∷ rest) (n + m))) (many-cong f g k l (drop n s) h (omega (arith, length-drop n s)))))
+    (after-cong (g s) _ _ (λ a n. ap (λ (q : Read (List Exp)). joined a n q) (many-cong f g k l (drop n s) h (omega (arith, length-drop n s)))))
 
 -- ── the bound does not matter ────────────────────────────────────────────────────────────────
 
 -- what stands behind a head
 abbrev pub behind : (List ℕ → Read Exp) → List ℕ → Read Exp
-behind f s = after (readMany f (operands (getD s 0 0)) (drop (headSize (getD s 0 0)) s)) (λ es n. got (build s es) (headSize (getD s 0 0) + n))
+behind f s = headed (build s) (headSize (getD s 0 0)) (readMany f (operands (getD s 0 0)) (drop (headSize (getD s 0 0)) s))
 
 behind-cong : (f g : List ℕ → Read Exp) (l : ℕ) (s : List ℕ) → ((u : List ℕ) → length u ≤ l → f u ≡ g u) → length s ≤ suc l → behind f s ≡ behind g s
 behind-cong f g l s h b =
-    ap (λ (q : Read (List Exp)). after q (λ es n. got (build s es) (headSize (getD s 0 0) + n)))
+    ap (λ (q : Read (List Exp)). headed (build s) (headSize (getD s 0 0)) q)
     (many-cong f g (operands (getD s 0 0)) l (drop (headSize (getD s 0 0)) s) h (omega (arith, length-drop (headSize (getD s 0 0)) s, head-pos (getD s 0 0))))
 
 one-more : (d : ℕ) (s : List ℕ) → length s ≤ d → readExp (suc d) s ≡ readExp d s
@@ -95,12 +106,12 @@ unfoldable pub ends : ℕ → ℕ → List ℕ → Form
 ends k at s = endFrom at (readMany expression k (drop at s))
 
 module _ (s : List ℕ) where
-  end-got : (r : Read (List Exp)) (a : Exp) (at n : ℕ) → endFrom at (after r (λ rest m. got (a ∷ rest) (n + m))) ≡ endFrom (at + n) r
+  end-got : (r : Read (List Exp)) (a : Exp) (at n : ℕ) → endFrom at (joined a n r) ≡ endFrom (at + n) r
   unfolding endFrom after
   end-got bad a at n = refl
   end-got (got es m) a at n = ap Bytes (omega arith)
 
-  ends-go : (k at : ℕ) (r : Read Exp) → endFrom at (after r (λ a n. after (readMany expression k (drop n (drop at s))) (λ rest m. got (a ∷ rest) (n + m)))) ≡ onward (endFrom at r) (λ to. ends k to s)
+  ends-go : (k at : ℕ) (r : Read Exp) → endFrom at (others expression k (drop at s) r) ≡ onward (endFrom at r) (λ to. ends k to s)
   unfolding endFrom onward ends after
   ends-go k at bad = refl
   ends-go k at (got a n) = rw (drop-drop n at s) (end-got (readMany expression k (drop (at + n) s)) a at n)
@@ -133,7 +144,7 @@ module _ (s : List ℕ) where
       ∙ onward-onward (endFrom at (expression (drop at s))) (λ to. ends k to s) (λ to. ends p to s)
       ∙ ap (λ (r : Form). onward r (λ to. ends p to s)) (sym (ends-one k at))
 
-  end-built : (r : Read (List Exp)) (f : List Exp → Exp) (at h : ℕ) → endFrom at (after r (λ es n. got (f es) (h + n))) ≡ endFrom (at + h) r
+  end-built : (r : Read (List Exp)) (f : List Exp → Exp) (at h : ℕ) → endFrom at (headed f h r) ≡ endFrom (at + h) r
   unfolding endFrom after
   end-built bad f at h = refl
   end-built (got es m) f at h = ap Bytes (omega arith)

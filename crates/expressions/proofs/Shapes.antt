@@ -1,55 +1,75 @@
 -- An expression by its head and its operands: which expression it is, by the code.
 -- Assumes nothing.
-use mathlib.Core.Path.{_≡_, refl, sym, ap, _∙_}
+use mathlib.Core.Path.{_≡_, refl}
 use mathlib.Core.Bool.{Bool, true, false, cond}
 use mathlib.Core.List.{List, [], _∷_}
-use Prim.Native.Nat.{ℕ, zero, suc, _+_, _-_, _≤_, _<_}
+use Prim.Native.Nat.{ℕ, _-_, _≤_}
 use native.Mathlib.Omega.{arith}
-use lib.Dec.{leb, eqb}
-use lib.ListN.{getD, drop, length, length-drop}
-use borrow.Author.Tests.{le-leb, lt-leb, eq-eqb, ne-eqb, leb-true, leb-false}
+use lib.Dec.{leb}
+use lib.ListN.{getD}
+use borrow.Author.Tests.{le-leb, lt-leb, ne-eqb, leb-true, leb-false}
 use Rattle.model.specs.Bytes.{valueAt}
-use Rattle.model.specs.Expressions.{Exp, literal, matched, variable, cast, one, two, if, Read, bad, got, after, readMany, operands, typeAt, build}
+use Rattle.model.specs.Expressions.{Exp, literal, matched, variable, cast, one, two, if, operands, typeAt, build}
 
 -- ── the code by the count of operands ────────────────────────────────────────────────────────
 
--- the count, as the tests on the code give it
-by-tests : (x y z : Bool) (c : ℕ) → leb c 2 ≡ x → leb c 5 ≡ y → leb c 27 ≡ z → (k : ℕ) → cond x 0 (cond y 1 (cond z 2 3)) ≡ k → ((k ≡ 0 → c ≤ 2) × (k ≡ 1 → (3 ≤ c) × (c ≤ 5))) × ((k ≡ 2 → (6 ≤ c) × (c ≤ 27)) × ((k ≡ 3 → 28 ≤ c) × (k ≤ 3)))
-by-tests true y z c e f g k h =
-    let a = leb-true c 2 e in
-    (((λ i. a), (λ i. absurd (omega arith))), ((λ i. absurd (omega arith)), ((λ i. absurd (omega arith)), omega arith)))
-by-tests false true z c e f g k h =
-    let a = leb-false c 2 e in
-    let b = leb-true c 5 f in
-    (((λ i. absurd (omega arith)), (λ i. (a, b))), ((λ i. absurd (omega arith)), ((λ i. absurd (omega arith)), omega arith)))
-by-tests false false true c e f g k h =
-    let a = leb-false c 5 f in
-    let b = leb-true c 27 g in
-    (((λ i. absurd (omega arith)), (λ i. absurd (omega arith))), ((λ i. (a, b)), ((λ i. absurd (omega arith)), omega arith)))
-by-tests false false false c e f g k h =
-    let a = leb-false c 27 g in
-    (((λ i. absurd (omega arith)), (λ i. absurd (omega arith))), ((λ i. absurd (omega arith)), ((λ i. a), omega arith)))
+-- what a count of operands says of the code
+record ByCount (c k : ℕ) : Type 0 where
+  none : k ≡ 0 → c ≤ 2
+  one : k ≡ 1 → (3 ≤ c) × (c ≤ 5)
+  two : k ≡ 2 → (6 ≤ c) × (c ≤ 27)
+  three : k ≡ 3 → 28 ≤ c
+  most : k ≤ 3
+
+by-tests : (x y z : Bool) (c : ℕ) → leb c 2 ≡ x → leb c 5 ≡ y → leb c 27 ≡ z → ByCount c (cond x 0 (cond y 1 (cond z 2 3)))
+by-tests true y z c e f g = record {
+  none = λ i. leb-true c 2 e;
+  one = λ i. absurd (omega arith);
+  two = λ i. absurd (omega arith);
+  three = λ i. absurd (omega arith);
+  most = omega arith;
+}
+by-tests false true z c e f g = record {
+  none = λ i. absurd (omega arith);
+  one = λ i. (leb-false c 2 e, leb-true c 5 f);
+  two = λ i. absurd (omega arith);
+  three = λ i. absurd (omega arith);
+  most = omega arith;
+}
+by-tests false false true c e f g = record {
+  none = λ i. absurd (omega arith);
+  one = λ i. absurd (omega arith);
+  two = λ i. (leb-false c 5 f, leb-true c 27 g);
+  three = λ i. absurd (omega arith);
+  most = omega arith;
+}
+by-tests false false false c e f g = record {
+  none = λ i. absurd (omega arith);
+  one = λ i. absurd (omega arith);
+  two = λ i. absurd (omega arith);
+  three = λ i. leb-false c 27 g;
+  most = omega arith;
+}
 
 module _ (c : ℕ) where
-  pub no-operand : operands c ≡ 0 → c ≤ 2
+  by-count : ByCount c (operands c)
   unfolding operands
-  no-operand e = (by-tests (leb c 2) (leb c 5) (leb c 27) c refl refl refl 0 e) .0 .0 refl
+  by-count = by-tests (leb c 2) (leb c 5) (leb c 27) c refl refl refl
+
+  pub no-operand : operands c ≡ 0 → c ≤ 2
+  no-operand = by-count .none
 
   pub one-operand : operands c ≡ 1 → (3 ≤ c) × (c ≤ 5)
-  unfolding operands
-  one-operand e = (by-tests (leb c 2) (leb c 5) (leb c 27) c refl refl refl 1 e) .0 .1 refl
+  one-operand = by-count .one
 
   pub two-operands : operands c ≡ 2 → (6 ≤ c) × (c ≤ 27)
-  unfolding operands
-  two-operands e = (by-tests (leb c 2) (leb c 5) (leb c 27) c refl refl refl 2 e) .1 .0 refl
+  two-operands = by-count .two
 
   pub three-operands : operands c ≡ 3 → 28 ≤ c
-  unfolding operands
-  three-operands e = (by-tests (leb c 2) (leb c 5) (leb c 27) c refl refl refl 3 e) .1 .1 .0 refl
+  three-operands = by-count .three
 
   pub at-most-three : operands c ≤ 3
-  unfolding operands
-  at-most-three = (by-tests (leb c 2) (leb c 5) (leb c 27) c refl refl refl (operands c) refl) .1 .1 .1
+  at-most-three = by-count .most
 
 -- ── the expression by the code ───────────────────────────────────────────────────────────────
 

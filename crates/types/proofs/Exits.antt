@@ -1,22 +1,21 @@
 -- The ways out of the type check of an expression at an offset, by what its operands gave.
 -- Assumes nothing.
 use mathlib.Core.Path.{_≡_, refl, sym, ap, _∙_, subst}
-use mathlib.Core.Bool.{Bool, true, false, cond, _&&_}
-use mathlib.Core.List.{List, [], _∷_}
-use Prim.Native.Nat.{ℕ, zero, suc, _+_, _-_, _≤_, _<_}
+use mathlib.Core.Bool.{true, _&&_}
+use mathlib.Core.List.{List, [], _∷_, _++_, append-assoc}
+use Prim.Native.Nat.{ℕ, _+_, _-_, _≤_, _<_}
 use native.Mathlib.Omega.{arith}
-use lib.Dec.{eqb}
-use lib.ListN.{getD, drop, length}
+use lib.ListN.{drop, length}
 use Rattle.model.specs.declared.Ty.{Ty}
-use Rattle.model.specs.Values.{isBool, isNumber, sameType}
-use Rattle.model.specs.Expressions.{Exp, Read, bad, got, headSize, operands, headFits, typeAt, build, expression, Scope, Typed, typed, ill, judged, oneType, twoType, typeOf, sizeOf}
-use Rattle.expressions.specs.Reading.{fitsAt, preciseHead}
-use Rattle.expressions.proofs.Heads.{head-at, fits-whole}
-use Rattle.expressions.proofs.Parts.{Run, Parts, parts, size-is}
+use Rattle.model.specs.Values.{isBool, sameType}
+use Rattle.model.specs.Expressions.{Exp, Read, got, headSize, operands, typeAt, build, expression, Scope, Typed, typed, ill, judged, twoType, typeOf}
+use Rattle.expressions.specs.Reading.{fitsAt}
+use Rattle.expressions.proofs.Parts.{sizes, sizes-append, size-is}
+use Rattle.expressions.proofs.Calls.{Call, deep, all, count-all, Reached, begin, next, counted, last}
 use Rattle.types.specs.declared.Typing.{Typing}
 use Rattle.types.specs.declared.Typing.the-variants as typing
 use Rattle.types.specs.Scopes.{placed, typedAt}
-use Rattle.types.proofs.Judging.{typed-there, Ahead, Step, step, run-length, run-end, type-one, type-two, type-if, first-ill, second-ill, third-ill}
+use Rattle.types.proofs.Judging.{typed-there, Typeds, none, typeds-end, typeds-length, oneRule, type-one, type-two, type-if, next-ill, type-drop}
 
 -- an answer that is a fault: where
 ill-there : (m : ℕ) (sc : Scope) (at : ℕ) (r : Read Exp) {e : Exp} {n : ℕ} → r ≡ got e n → typedAt sc at r ≡ typing.Ill m → (k : ℕ) × ((typeOf sc e ≡ ill k) × (at + k ≡ m))
@@ -27,117 +26,68 @@ ill-there m sc at r {e} {n} x y = go (typeOf sc e) refl (rw x at y)
     go (typed t) f z = absurd (let z : _≡_ {A = ℕ} 0 1 = cc in omega arith)
     go (ill k) f z = (k, (f, cc))
 
--- an operand that has a type: which, where it ends, and what follows
-module _ {s : List ℕ} {d k at end m : ℕ} {es : List Exp} {t : Ty} (sc : Scope) (x : Step s d k at es end) (y : typedAt sc at (expression (drop at s)) ≡ typing.Typed t m) where
-  pub its-type : typeOf sc (x .e) ≡ typed t
-  its-type = typed-there sc at (expression (drop at s)) (x .read) y .0
+-- the operands before an offset have these types, and k more stand from there on
+pub record Judged (sc : Scope) (x : Call) (ts : List Ty) (k at : ℕ) : Type 0 where
+  pub done : List Exp
+  pub types : Typeds sc done ts
+  pub reached : Reached x done k at
+  pub offset : x .at + (headSize (x .c) + sizes done) ≡ at
 
-  pub its-end : at + sizeOf (x .e) ≡ m
-  its-end = rw (size-is (drop at s) (x .read)) (typed-there sc at (expression (drop at s)) (x .read) y .1)
+pub unjudged : (sc : Scope) (x : Call) {h : ℕ} → h ≡ headSize (x .c) → Judged sc x [] (x .k) (x .at + h)
+unfolding sizes
+unjudged sc x e = record { done = []; types = none; reached = begin x e; offset = omega arith }
 
-  pub onward : Ahead s d (k - 1) m (x .rest) end
-  onward = subst (λ (i : ℕ). Ahead s d (k - 1) i (x .rest) end) (typed-there sc at (expression (drop at s)) (x .read) y .1) (x .ahead)
+abbrev answerAt : Scope → Call → ℕ → Typing
+answerAt sc x at = typedAt sc at (expression (drop at (x .s)))
 
-module _ (s : List ℕ) (at d c : ℕ) (h : c ≡ getD s at 0) (l : at ≤ length s) (g : fitsAt d (expression (drop at s)) ≡ true) where
-  pub there : getD (drop at s) 0 0 ≡ c
-  there = head-at at s ∙ sym h
+-- the answer of the whole from the type of what is built
+answer : (sc : Scope) (x : Call) {y : Typed} (es : List Exp) → all x .es ≡ es → typeOf sc (build (drop (x .at) (x .s)) es) ≡ y → answerAt sc x (x .at) ≡ placed (x .at) (all x .size) y
+unfolding typedAt
+answer sc x es q e = rw (all x .read, q) (ap (placed (x .at) (all x .size)) e)
 
-  pub all : Parts s at d c
-  all = parts s at c there d g
+module _ {sc : Scope} {x : Call} {ts : List Ty} {k at : ℕ} (j : Judged sc x ts k at) where
+  -- what the check of the next operand asks: less depth than t, an offset inside, the limits
+  pub asked : {t : ℕ} → 0 < k → x .depth ≡ t → (x .depth - 1 < t) × ((at ≤ length (x .s)) × (fitsAt (x .depth - 1) (expression (drop at (x .s))) ≡ true))
+  asked l e = let y = next (j .reached) l in (omega (arith, e, deep x), (y .inside, y .fits))
 
-  pub deep : 1 ≤ d
-  deep = all .deep
+  -- the next operand has a type
+  pub onward : {t : Ty} {m : ℕ} → 0 < k → answerAt sc x at ≡ typing.Typed t m → Judged sc x (ts ++ (t ∷ [])) (k - 1) m
+  unfolding sizes
+  onward {t} {m} l a =
+      let y = next (j .reached) l in
+      let w = typed-there sc at (expression (drop at (x .s))) (y .read) a in
+      record {
+        done = j .done ++ (y .e ∷ []);
+        types = typeds-end (j .types) (y .e) (w .0);
+        reached = subst (λ (i : ℕ). Reached x (j .done ++ (y .e ∷ [])) (k - 1) i) (w .1) (y .onward);
+        offset = omega (arith, j .offset, w .1, sizes-append (j .done) (y .e ∷ []), size-is (drop at (x .s)) (y .read));
+      }
 
-  pub whole : headFits (drop at s) ≡ true
-  whole = all .whole
+  -- the next operand fails
+  pub exit-ill : (q : ℕ) → 0 < k → answerAt sc x at ≡ typing.Ill q → answerAt sc x (x .at) ≡ typing.Ill q
+  unfolding placed
+  exit-ill q l a =
+      let y = next (j .reached) l in
+      let z = ill-there q sc at (expression (drop at (x .s))) (y .read) a in
+      let r = y .onward .rest in
+      let t : all x .es ≡ j .done ++ (y .e ∷ r) = y .onward .these ∙ append-assoc (j .done) (y .e ∷ []) r in
+      let n : length (j .done ++ (y .e ∷ r)) ≡ operands (x .c) = sym (ap length t) ∙ count-all x in
+      let w : x .at + (headSize (x .c) + sizes (j .done) + z .0) ≡ q = omega (arith, j .offset, z .1 .1) in
+      answer sc x (j .done ++ (y .e ∷ r)) t (next-ill sc x (j .types) (y .e) r n (z .1 .0)) ∙ ap typing.Ill w
 
-  pub precise : preciseHead (drop at s) ≡ true
-  precise = all .precise
+  -- no operand is left
+  ended : {y : Typed} → length ts ≡ x .k → typeOf sc (build (drop (x .at) (x .s)) (j .done)) ≡ y → (x .at ≤ at) × (answerAt sc x (x .at) ≡ placed (x .at) (at - x .at) y)
+  ended {y} e b =
+      let w = last (j .reached) (omega (arith, e, x .count, counted (j .reached), typeds-length (j .types))) in
+      let n : all x .size ≡ at - x .at = omega (arith, w .1) in
+      (omega (arith, w .1), answer sc x (j .done) (w .0) b ∙ ap (λ (i : ℕ). placed (x .at) i y) n)
 
-  pub head-inside : at + headSize c ≤ length s
-  head-inside = fits-whole s at c h (all .whole) l
+module _ {sc : Scope} {x : Call} {k at : ℕ} where
+  pub exit-one : {t named : Ty} → Judged sc x (t ∷ []) k at → x .k ≡ 1 → named ≡ typeAt (x .s) (x .at + 1) → (x .at ≤ at) × (answerAt sc x (x .at) ≡ placed (x .at) (at - x .at) (oneRule (x .c) named t))
+  exit-one j e q = ended j (sym e) (type-one sc x e (j .types) ∙ rw (q, type-drop (x .at) (x .s) 1))
 
-  abbrev pub here : ℕ
-  here = at + headSize c
+  pub exit-two : {t v : Ty} → Judged sc x (t ∷ v ∷ []) k at → x .k ≡ 2 → (x .at ≤ at) × (answerAt sc x (x .at) ≡ placed (x .at) (at - x .at) (twoType (x .c) t v))
+  exit-two j e = ended j (sym e) (type-two sc x e (j .types))
 
-  -- the answer of the whole from the type of what is built
-  answer : (sc : Scope) {x : Typed} (es : List Exp) → all .es ≡ es → typeOf sc (build (drop at s) es) ≡ x → typedAt sc at (expression (drop at s)) ≡ placed at (all .size) x
-  unfolding typedAt
-  answer sc es q e = rw (all .read, q) (ap (placed at (all .size)) e)
-
-  resized : (x : Typed) (n : ℕ) → at + all .size ≡ n → (at ≤ n) × (placed at (all .size) x ≡ placed at (n - at) x)
-  resized x n e = let w : all .size ≡ n - at = omega arith in (omega arith, ap (λ (i : ℕ). placed at i x) w)
-
-  module _ (o : 0 < operands c) where
-    pub first : Step s (d - 1) (operands c) here (all .es) (at + all .size)
-    first = step s (d - 1) (operands c) here o (record { run = all .run; shallower = all .shallower; inside = head-inside })
-
-    pub first-fits : fitsAt (d - 1) (expression (drop here s)) ≡ true
-    first-fits = first .fits
-
-    module _ (sc : Scope) where
-      pub exit-first : (q : ℕ) → typedAt sc here (expression (drop here s)) ≡ typing.Ill q → typedAt sc at (expression (drop at s)) ≡ typing.Ill q
-      unfolding placed
-      exit-first q y =
-          let z = ill-there q sc here (expression (drop here s)) (first .read) y in
-          let n : suc (length (first .rest)) ≡ operands c = sym (ap length (first .these)) ∙ run-length (all .run) in
-          let w : at + (headSize c + z .0) ≡ q = omega (arith, z .1 .1) in
-          answer sc (first .e ∷ first .rest) (first .these) (first-ill sc (drop at s) c there (first .e) (first .rest) n (z .1 .0)) ∙ ap typing.Ill w
-
-      module _ (t : Ty) (n : ℕ) (a : typedAt sc here (expression (drop here s)) ≡ typing.Typed t n) where
-        pub exit-one : operands c ≡ 1 → (at ≤ n) × (typedAt sc at (expression (drop at s)) ≡ placed at (n - at) (cond (eqb c 3) (judged (isNumber (typeAt (drop at s) 1) && isNumber t) (typeAt (drop at s) 1)) (oneType c t)))
-        exit-one e =
-            let r = run-end (onward sc first a .run) (omega arith) in
-            let w = resized (cond (eqb c 3) (judged (isNumber (typeAt (drop at s) 1) && isNumber t) (typeAt (drop at s) 1)) (oneType c t)) n (r .1) in
-            (w .0, answer sc (first .e ∷ []) (first .these ∙ ap (λ (i : List Exp). first .e ∷ i) (r .0)) (type-one sc (drop at s) c there (first .e) e (its-type sc first a)) ∙ w .1)
-
-        module _ (o2 : 0 < operands c - 1) where
-          pub second : Step s (d - 1) (operands c - 1) n (first .rest) (at + all .size)
-          second = step s (d - 1) (operands c - 1) n o2 (onward sc first a)
-
-          pub second-fits : (fitsAt (d - 1) (expression (drop n s)) ≡ true) × (n ≤ length s)
-          second-fits = (second .fits, onward sc first a .inside)
-
-          pub two-are : all .es ≡ first .e ∷ second .e ∷ second .rest
-          two-are = first .these ∙ ap (λ (i : List Exp). first .e ∷ i) (second .these)
-
-          pub exit-second : (q : ℕ) → typedAt sc n (expression (drop n s)) ≡ typing.Ill q → typedAt sc at (expression (drop at s)) ≡ typing.Ill q
-          unfolding placed
-          exit-second q y =
-              let z = ill-there q sc n (expression (drop n s)) (second .read) y in
-              let j : suc (suc (length (second .rest))) ≡ operands c = sym (ap length two-are) ∙ run-length (all .run) in
-              let w : at + (headSize c + sizeOf (first .e) + z .0) ≡ q = omega (arith, z .1 .1, its-end sc first a) in
-              answer sc (first .e ∷ second .e ∷ second .rest) two-are (second-ill sc (drop at s) c there (first .e) (second .e) (second .rest) j (its-type sc first a) (z .1 .0)) ∙ ap typing.Ill w
-
-          module _ (v : Ty) (m : ℕ) (b : typedAt sc n (expression (drop n s)) ≡ typing.Typed v m) where
-            pub exit-two : operands c ≡ 2 → (at ≤ m) × (typedAt sc at (expression (drop at s)) ≡ placed at (m - at) (twoType c t v))
-            exit-two e =
-                let r = run-end (onward sc second b .run) (omega arith) in
-                let w = resized (twoType c t v) m (r .1) in
-                (w .0, answer sc (first .e ∷ second .e ∷ []) (two-are ∙ ap (λ (i : List Exp). first .e ∷ second .e ∷ i) (r .0)) (type-two sc (drop at s) c there (first .e) (second .e) e (its-type sc first a) (its-type sc second b)) ∙ w .1)
-
-            module _ (o3 : operands c ≡ 3) where
-              pub third : Step s (d - 1) (operands c - 1 - 1) m (second .rest) (at + all .size)
-              third = step s (d - 1) (operands c - 1 - 1) m (omega arith) (onward sc second b)
-
-              pub third-fits : (fitsAt (d - 1) (expression (drop m s)) ≡ true) × (m ≤ length s)
-              third-fits = (third .fits, onward sc second b .inside)
-
-              last-is : third .rest ≡ []
-              last-is = run-end (third .ahead .run) (omega arith) .0
-
-              pub three-are : all .es ≡ first .e ∷ second .e ∷ third .e ∷ []
-              three-are = two-are ∙ ap (λ (i : List Exp). first .e ∷ second .e ∷ i) (third .these ∙ ap (λ (i : List Exp). third .e ∷ i) last-is)
-
-              pub exit-third : (q : ℕ) → typedAt sc m (expression (drop m s)) ≡ typing.Ill q → typedAt sc at (expression (drop at s)) ≡ typing.Ill q
-              unfolding placed
-              exit-third q y =
-                  let z = ill-there q sc m (expression (drop m s)) (third .read) y in
-                  let w : at + (headSize c + sizeOf (first .e) + sizeOf (second .e) + z .0) ≡ q = omega (arith, z .1 .1, its-end sc first a, its-end sc second b) in
-                  answer sc (first .e ∷ second .e ∷ third .e ∷ []) three-are (third-ill sc (drop at s) c there (first .e) (second .e) (third .e) o3 (its-type sc first a) (its-type sc second b) (z .1 .0)) ∙ ap typing.Ill w
-
-              pub exit-if : (x : Ty) (p : ℕ) → typedAt sc m (expression (drop m s)) ≡ typing.Typed x p → (at ≤ p) × (typedAt sc at (expression (drop at s)) ≡ placed at (p - at) (judged (isBool t && sameType v x) v))
-              exit-if x p y =
-                  let r = run-end (onward sc third y .run) (omega arith) in
-                  let w = resized (judged (isBool t && sameType v x) v) p (r .1) in
-                  (w .0, answer sc (first .e ∷ second .e ∷ third .e ∷ []) three-are (type-if sc (drop at s) c there (first .e) (second .e) (third .e) o3 (its-type sc first a) (its-type sc second b) (its-type sc third y)) ∙ w .1)
+  pub exit-if : {b t v : Ty} → Judged sc x (b ∷ t ∷ v ∷ []) k at → x .k ≡ 3 → (x .at ≤ at) × (answerAt sc x (x .at) ≡ placed (x .at) (at - x .at) (judged (isBool b && sameType t v) t))
+  exit-if j e = ended j (sym e) (type-if sc x e (j .types))

@@ -1,25 +1,22 @@
 -- Literals and references: their types, where they stand in the bytes.
 -- Assumes nothing.
 use mathlib.Core.Path.{_≡_, refl, sym, ap, _∙_}
-use mathlib.Core.Bool.{Bool, true, false, cond, _&&_, _||_}
-use mathlib.Core.List.{List, [], _∷_}
-use Prim.Native.Nat.{ℕ, zero, suc, _+_, _-_, _*_, _≤_, _<_}
+use mathlib.Core.Bool.{Bool, true, cond, _&&_}
+use mathlib.Core.List.{List, []}
+use Prim.Native.Nat.{ℕ, zero, suc, _+_, _-_, _*_}
 use native.Mathlib.Omega.{arith}
-use lib.Dec.{leb, ltb, eqb}
+use lib.Dec.{ltb}
 use lib.IntN.{ℤ}
-use lib.ListN.{getD, drop, length}
+use lib.ListN.{getD, drop}
 use lib.Seq.{getD-drop}
-use borrow.Author.Tests.{le-ltb, leb-true, eq-eqb, ne-eqb}
+use borrow.Author.Tests.{le-ltb}
 use Rattle.model.specs.declared.Ty.{Ty}
 use Rattle.model.specs.Bytes.{valueAt, fourAt}
-use Rattle.model.specs.Values.{isPlain, within, noType, inPrecision}
-use Rattle.model.specs.Expressions.{Exp, Read, bad, got, after, readMany, headSize, operands, headFits, typeAt, build, expression, Scope, Typed, typed, ill, judged, typeOf, expressionLimits}
-use Rattle.model.proofs.Tests.{and-left, and-right}
-use Rattle.expressions.specs.Reading.{preciseHead, shallow, fitsAt, limitsRead}
-use Rattle.expressions.proofs.Reading.{some-exp}
-use Rattle.expressions.proofs.Heads.{head-at, precise-named}
-use Rattle.expressions.proofs.Depths.{two-left}
-use Rattle.expressions.proofs.Shapes.{no-operand, build-literal, build-matched, build-variable}
+use Rattle.model.specs.Values.{isPlain, within, noType}
+use Rattle.model.specs.Expressions.{Exp, Read, bad, got, headSize, typeAt, build, expression, Scope, Typed, judged, typeOf, expressionLimits}
+use Rattle.expressions.specs.Reading.{shallow, fitsAt, limitsRead}
+use Rattle.expressions.proofs.Leaves.{Leaf, leaf-there, leaf-read, leaf-two}
+use Rattle.expressions.proofs.Shapes.{build-literal, build-matched, build-variable}
 use Rattle.types.specs.declared.Typing.{Typing}
 use Rattle.types.specs.declared.Typing.the-variants as typing
 use Rattle.types.specs.Scopes.{scopeIn, placed, typedAt}
@@ -51,44 +48,44 @@ vars-is ts (suc (suc zero)) = refl
 vars-is ts (suc (suc (suc zero))) = refl
 vars-is ts (suc (suc (suc (suc i)))) = rw (le-ltb (suc (suc (suc (suc i)))) 4 (omega arith))
 
+-- the type that a table names at i, from its inputs (0) or its variables (8) on
+abbrev pub namedIn : List ℕ → ℕ → ℕ → Ty
+namedIn ts from i = cond (ltb i 4) (typeAt ts (from + 2 * i)) noType
+
 -- ── a leaf ───────────────────────────────────────────────────────────────────────────────────
 
-pub leaf-exp : (u : List ℕ) (c : ℕ) → getD u 0 0 ≡ c → headFits u ≡ true → operands c ≡ 0 → expression u ≡ got (build u []) (headSize c + 0)
-unfolding after readMany
-leaf-exp u c h e o = some-exp u e ∙ rw (h, o)
+module _ (x : Leaf) where
+  abbrev typeThere : Scope → Typing
+  typeThere sc = typedAt sc (x .at) (expression (drop (x .at) (x .s)))
 
-module _ (s : List ℕ) (at c : ℕ) (h : c ≡ getD s at 0) (fits : headFits (drop at s) ≡ true) (o : operands c ≡ 0) where
-  here : getD (drop at s) 0 0 ≡ c
-  here = head-at at s ∙ sym h
+  abbrev answer : Bool → Ty → ℕ → Typing
+  answer b t n = cond b (typing.Typed t (x .at + n)) (typing.Ill (x .at))
 
-  leaf-answer : (sc : Scope) (b : Bool) (t : Ty) (n : ℕ) → typeOf sc (build (drop at s) []) ≡ judged b t → headSize c ≡ n → typedAt sc at (expression (drop at s)) ≡ cond b (typing.Typed t (at + n)) (typing.Ill at)
+  leaf-answer : (sc : Scope) (b : Bool) (t : Ty) (n : ℕ) → typeOf sc (build (drop (x .at) (x .s)) []) ≡ judged b t → headSize (x .c) ≡ n → answer b t n ≡ typeThere sc
   unfolding typedAt
   leaf-answer sc b t n e z =
-      let w : headSize c + 0 ≡ at + n - at = omega arith in
-      rw (leaf-exp (drop at s) c here fits o) (ap (placed at (headSize c + 0)) e ∙ ap (λ (i : ℕ). placed at i (judged b t)) w ∙ sym (judged-is b t at (at + n) (omega arith)))
+      let w : x .at + n - x .at ≡ headSize (x .c) + 0 = omega arith in
+      judged-is b t (x .at) (x .at + n) (omega arith) ∙ ap (λ (i : ℕ). placed (x .at) i (judged b t)) w ∙ rw (leaf-read x) (ap (placed (x .at) (headSize (x .c) + 0)) (sym e))
 
-  pub leaf-literal : (sc : Scope) → c ≡ 0 → typedAt sc at (expression (drop at s)) ≡ cond (isPlain (typeAt s (at + 1)) && within (typeAt s (at + 1)) (valueAt s (at + 3))) (typing.Typed (typeAt s (at + 1)) (at + 7)) (typing.Ill at)
+  pub leaf-literal : (sc : Scope) {b f : Bool} {t : Ty} {y z : ℤ} → x .c ≡ 0 → t ≡ typeAt (x .s) (x .at + 1) → z ≡ valueAt (x .s) (x .at + 3) → y ≡ z → b ≡ isPlain t → f ≡ within t y → answer (b && f) t 7 ≡ typeThere sc
   unfolding typeOf headSize
-  leaf-literal sc e = leaf-answer sc (isPlain (typeAt s (at + 1)) && within (typeAt s (at + 1)) (valueAt s (at + 3))) (typeAt s (at + 1)) 7 (rw (build-literal (drop at s) c here [] e, type-drop at s 1, value-drop at s)) (rw e)
+  leaf-literal sc {b} {f} {t} {y} {z} e q v i p w =
+      let l : typeOf sc (build (drop (x .at) (x .s)) []) ≡ judged (b && f) t = rw (build-literal (drop (x .at) (x .s)) (x .c) (leaf-there x) [] e, type-drop (x .at) (x .s) 1, value-drop (x .at) (x .s), p, w, i, v, q) in
+      leaf-answer sc (b && f) t 7 l (rw e)
 
-  pub leaf-matched : (ts : List ℕ) (t : Ty) → c ≡ 1 → t ≡ cond (ltb (getD s (at + 1) 0) 4) (typeAt ts (0 + 2 * getD s (at + 1) 0)) noType → typedAt (scopeIn ts) at (expression (drop at s)) ≡ cond (isPlain t) (typing.Typed t (at + 2)) (typing.Ill at)
-  unfolding typeOf headSize
-  leaf-matched ts t e q = leaf-answer (scopeIn ts) (isPlain t) t 2 (rw (build-matched (drop at s) c here [] e, getD-drop at s 1 0, ins-is ts (getD s (at + 1) 0), q)) (rw e)
+  module _ (ts : List ℕ) {b : Bool} {t : Ty} {i : ℕ} (n : i ≡ getD (x .s) (x .at + 1) 0) where
+    pub leaf-matched : x .c ≡ 1 → t ≡ namedIn ts 0 i → b ≡ isPlain t → answer b t 2 ≡ typeThere (scopeIn ts)
+    unfolding typeOf headSize
+    leaf-matched e q p =
+        let l : typeOf (scopeIn ts) (build (drop (x .at) (x .s)) []) ≡ judged b t = rw (build-matched (drop (x .at) (x .s)) (x .c) (leaf-there x) [] e, getD-drop (x .at) (x .s) 1 0, sym n, ins-is ts i, p, q) in
+        leaf-answer (scopeIn ts) b t 2 l (rw e)
 
-  pub leaf-variable : (ts : List ℕ) (t : Ty) → (c ≡ 0 → ⊥) → (c ≡ 1 → ⊥) → t ≡ cond (ltb (getD s (at + 1) 0) 4) (typeAt ts (8 + 2 * getD s (at + 1) 0)) noType → typedAt (scopeIn ts) at (expression (drop at s)) ≡ cond (isPlain t) (typing.Typed t (at + 2)) (typing.Ill at)
-  unfolding typeOf headSize
-  leaf-variable ts t e f q =
-      let two = two-left c (no-operand c o) e f in
-      leaf-answer (scopeIn ts) (isPlain t) t 2 (rw (build-variable (drop at s) c here [] two, getD-drop at s 1 0, vars-is ts (getD s (at + 1) 0), q)) (rw two)
-
-  -- a literal's precision
-  pub literal-precise : c ≡ 0 → preciseHead (drop at s) ≡ true → (1 ≤ typeAt s (at + 1) .p) × (typeAt s (at + 1) .p ≤ 30)
-  unfolding inPrecision
-  literal-precise e p =
-      let t = typeAt s (at + 1) in
-      let named : (eqb c 0 || eqb c 3) ≡ true = rw (eq-eqb c 0 e) in
-      let w : (leb 1 (t .p) && leb (t .p) 30) ≡ true = sym (precise-named s at c h named) ∙ p in
-      (leb-true 1 (t .p) (and-left (leb 1 (t .p)) (leb (t .p) 30) w), leb-true (t .p) 30 (and-right (leb 1 (t .p)) (leb (t .p) 30) w))
+    pub leaf-variable : (x .c ≡ 0 → ⊥) → (x .c ≡ 1 → ⊥) → t ≡ namedIn ts 8 i → b ≡ isPlain t → answer b t 2 ≡ typeThere (scopeIn ts)
+    unfolding typeOf headSize
+    leaf-variable f g q p =
+        let e = leaf-two x f g in
+        let l : typeOf (scopeIn ts) (build (drop (x .at) (x .s)) []) ≡ judged b t = rw (build-variable (drop (x .at) (x .s)) (x .c) (leaf-there x) [] e, getD-drop (x .at) (x .s) 1 0, sym n, vars-is ts i, p, q) in
+        leaf-answer (scopeIn ts) b t 2 l (rw e)
 
 -- the limits of the whole
 pub limits-fit : (r : Read Exp) → limitsRead r ≡ true → fitsAt 16 r ≡ true

@@ -1,22 +1,13 @@
-use mathlib.Core.Path.{_≡_, refl, sym, ap, _∙_}
-use mathlib.Core.Bool.{true, cond, _&&_}
-use Prim.Native.Nat.{ℕ, _+_, _-_, _<_, _≤_}
+use mathlib.Core.Path.{_≡_, sym, _∙_}
+use mathlib.Core.List.{[]}
+use Prim.Native.Nat.{ℕ, _+_, _-_, _<_}
 use native.Mathlib.Nat.{pos-of-ne-zero}
 use native.Mathlib.Omega.{arith}
 use borrow.Author.Needs.{needs}
-use borrow.Author.Tests.{eq-eqb}
-use lib.Dec.{eqb}
-use lib.IntN.{ℤ, pos}
-use lib.ListN.{getD, drop, length}
-use Rattle.model.specs.Values.{eqZ}
-use Rattle.model.specs.Expressions.{headSize, operands, expression}
-use Rattle.values.proofs.Machine.{back}
 use Rattle.expressions.proofs.Reading.{head-pos}
-use Rattle.types.proofs.Judging.{type-drop, two-up, three-is}
-use Rattle.types.proofs.Exits.{deep, whole, precise, head-inside, first-fits}
+use Rattle.expressions.proofs.Calls.{Call, deep, whole, no-operands, head-inside, begin, two-up, three-is}
 use Rattle.evaluation.specs.declared.Evaluated.the-variants as evaluated
-use Rattle.evaluation.specs.Envs.{envIn, valuedAt, skipTo}
-use Rattle.evaluation.proofs.Valuing.{first-typed, first-small, exit-first, exit-one, second-inside, site, cast-precise, exit-second, exit-two, exit-if, if-small}
+use Rattle.evaluation.proofs.Valuing.{Work, Operand, operand, asked, ends-inside, small, First, first, exit-first, exit-one, Chosen, chosen, exit-second, exit-two, exit-if, answerAt, cast-precise, stored}
 use borrow.Fn.Kinds.{In}
 use borrow.Fn.PlainCycle.{Measures, is, falls, and}
 use Rattle.evaluation.proofs.value_at.Reads as value-at
@@ -45,132 +36,201 @@ value-at-below t =
     and 3 value-at-kinds.ps (falls 3 value-at-kinds.ps _<_ μ-value-at t) value-at.Pre
 
 abbrev Cs : ℕ → lts.Claims
-Cs t = (byte-at-reads.Asked, byte-at-reads.Learnt, operands-reads.Asked, operands-reads.Learnt, leaf-value-reads.Asked, leaf-value-reads.Learnt, head-size-reads.Asked, head-size-reads.Learnt, value-at-below t, value-at.Post, type-at-reads.Asked, type-at-reads.Learnt, one-value-reads.Asked, one-value-reads.Learnt, second-from-reads.Asked, second-from-reads.Learnt, two-value-reads.Asked, two-value-reads.Learnt, if-end-reads.Asked, if-end-reads.Learnt)
+Cs t = (
+  byte-at-reads.Asked,
+  byte-at-reads.Learnt,
+  operands-reads.Asked,
+  operands-reads.Learnt,
+  leaf-value-reads.Asked,
+  leaf-value-reads.Learnt,
+  head-size-reads.Asked,
+  head-size-reads.Learnt,
+  value-at-below t,
+  value-at.Post,
+  type-at-reads.Asked,
+  type-at-reads.Learnt,
+  one-value-reads.Asked,
+  one-value-reads.Learnt,
+  second-from-reads.Asked,
+  second-from-reads.Learnt,
+  two-value-reads.Asked,
+  two-value-reads.Learnt,
+  if-end-reads.Asked,
+  if-end-reads.Learnt,
+)
 
--- the count of operands, as the tests leave it
-some : (t : ℕ) (c : lts.Else1 (Cs t) (value-at-at t) value-at.Post) → 0 < operands (c .before .before .byte-at .result)
-some t c = rw (c .before .operands .ensures .0) at (pos-of-ne-zero (c .if1 .left))
+module _ (t : ℕ) where
+  -- ── places ─────────────────────────────────────────────────────────────────────────────────
 
--- the first operand's answer
-first-is : (t : ℕ) (c : lts.After-value-at (Cs t) (value-at-at t) value-at.Post) → c .value-at .result ≡ valuedAt (envIn (c .before .before .before .before .before .before .args .vals .now) (c .before .before .before .before .before .before .args .types .now)) (c .before .before .before .before .before .before .args .at + headSize (c .before .before .before .before .byte-at .result)) (expression (drop (c .before .before .before .before .before .before .args .at + headSize (c .before .before .before .before .byte-at .result)) (c .before .before .before .before .before .before .args .s .now)))
-first-is t c = rw (c .before .head-size .ensures .0) at (c .value-at .ensures)
+  abbrev Opened : Type 0  -- the code and the count of its operands are known
+  Opened = lts.After-operands (Cs t) (value-at-at t) value-at.Post
 
-first-valued : (t : ℕ) (c : lts.After-known-told (Cs t) (value-at-at t) value-at.Post) → valuedAt (envIn (c .before .before .before .before .before .before .before .before .before .args .vals .now) (c .before .before .before .before .before .before .before .before .before .args .types .now)) (c .before .before .before .before .before .before .before .before .before .args .at + headSize (c .before .before .before .before .before .before .before .byte-at .result)) (expression (drop (c .before .before .before .before .before .before .before .before .before .args .at + headSize (c .before .before .before .before .before .before .before .byte-at .result)) (c .before .before .before .before .before .before .before .before .before .args .s .now))) ≡ evaluated.Value (c .before .a .given .0 .0) (c .before .a .given .0 .1 .0) (c .before .a .given .0 .1 .1 .0)
-first-valued t c = sym (first-is t (c .before .before .before)) ∙ c .before .a .given .1
+  abbrev Headed : Type 0  -- and the first operand's offset
+  Headed = lts.After-head-size (Cs t) (value-at-at t) value-at.Post
 
-two-left : (t : ℕ) (c : lts.Else2 (Cs t) (value-at-at t) value-at.Post) → 0 < operands (c .before .before .before .before .before .before .before .before .byte-at .result) - 1
-two-left t c = two-up _ (some t (c .before .before .before .before .before .before)) (rw (c .before .before .before .before .before .before .before .operands .ensures .0) at (c .if2 .left))
+  abbrev Told-1 : Type 0  -- and the first operand's value
+  Told-1 = lts.After-known-told (Cs t) (value-at-at t) value-at.Post
 
--- where the second operand to work out begins
-from-is : (t : ℕ) (c : lts.After-second-from (Cs t) (value-at-at t) value-at.Post) → c .second-from .result ≡ cond (eqb (operands (c .before .before .before .before .before .before .before .before .before .byte-at .result)) 3 && eqZ (c .before .before .before .a .given .0 .1 .0) (pos 0)) (skipTo (c .before .before .before .a .given .0 .1 .1 .0) (expression (drop (c .before .before .before .a .given .0 .1 .1 .0) (c .before .before .before .before .before .before .before .before .before .before .before .args .s .now)))) (c .before .before .before .a .given .0 .1 .1 .0)
-from-is t c =
-    let w = first-small (c .before .before .before .before .before .before .before .before .before .before .before .args .s .now) (c .before .before .before .before .before .before .before .before .before .before .before .args .at) (c .before .before .before .before .before .before .before .before .before .before .before .args .depth) (c .before .before .before .before .before .before .before .before .before .byte-at .result) (c .before .before .before .before .before .before .before .before .before .byte-at .ensures) (c .before .before .before .before .before .before .before .before .before .before .before .pre .1 .0) (c .before .before .before .before .before .before .before .before .before .before .before .pre .1 .1 .0) (c .before .before .before .before .before .before .before .before .before .before .before .args .vals .now) (c .before .before .before .before .before .before .before .before .before .before .before .args .types .now) (c .before .before .before .before .before .before .before .before .before .before .before .pre .1 .1 .1 .1) (c .before .before .before .before .before .before .before .before .before .before .before .pre .1 .1 .1 .0) (some t (c .before .before .before .before .before .before .before)) _ _ _ (first-valued t (c .before .before)) in
-    rw (c .before .before .before .before .before .before .before .before .operands .ensures .0, back {z = c .before .before .before .a .given .0 .1 .0} (omega (arith, w .small))) at (c .second-from .ensures)
+  abbrev Turned : Type 0  -- and where the second to work out begins
+  Turned = lts.After-second-from (Cs t) (value-at-at t) value-at.Post
 
-two-count : (t : ℕ) (c : lts.Then3 (Cs t) (value-at-at t) value-at.Post) → operands (c .before .before .before .before .before .before .before .before .before .before .before .before .before .before .byte-at .result) ≡ 2
-two-count t c = sym (c .before .before .before .before .before .before .before .before .before .before .before .before .before .operands .ensures .0) ∙ c .if3 .taken
+  abbrev Told-2 : Type 0  -- and its value
+  Told-2 = lts.After-known-told2 (Cs t) (value-at-at t) value-at.Post
 
--- the right side's value, of two operands
-two-valued : (t : ℕ) (c : lts.Then3 (Cs t) (value-at-at t) value-at.Post) → valuedAt (envIn (c .before .before .before .before .before .before .before .before .before .before .before .before .before .before .before .before .args .vals .now) (c .before .before .before .before .before .before .before .before .before .before .before .before .before .before .before .before .args .types .now)) (c .before .before .before .before .before .before .before .before .a .given .0 .1 .1 .0) (expression (drop (c .before .before .before .before .before .before .before .before .a .given .0 .1 .1 .0) (c .before .before .before .before .before .before .before .before .before .before .before .before .before .before .before .before .args .s .now))) ≡ evaluated.Value (c .before .before .b .given .0 .0) (c .before .before .b .given .0 .1 .0) (c .before .before .b .given .0 .1 .1 .0)
-two-valued t c =
-    let q : c .before .before .before .before .before .second-from .result ≡ c .before .before .before .before .before .before .before .before .a .given .0 .1 .1 .0 = from-is t (c .before .before .before .before .before) ∙ rw (two-count t c) in
-    rw q at (sym (c .before .before .before .before .value-at2 .ensures) ∙ c .before .before .b .given .1)
+  abbrev start : Opened → lts.Start (Cs t) (value-at-at t) value-at.Post
+  start c = c .before .before .before
 
-three-count : (t : ℕ) (c : lts.Else3 (Cs t) (value-at-at t) value-at.Post) → operands (c .before .before .before .before .before .before .before .before .before .before .before .before .before .before .byte-at .result) ≡ 3
-three-count t c =
-    let e = rw (c .before .before .before .before .before .before .before .before .before .before .before .before .before .operands .ensures .0) at (c .if3 .left) in
-    let k = rw (c .before .before .before .before .before .before .before .before .before .before .before .before .before .operands .ensures .0) at (c .before .before .before .before .before .before .before .before .before .before .before .before .before .operands .ensures .1) in
-    three-is _ (some t (c .before .before .before .before .before .before .before .before .before .before .before .before)) (two-left t (c .before .before .before .before .before .before)) k e
+  abbrev headed : Told-1 → Headed
+  headed c = c .before .before .before .before
 
--- the branch that is worked out
-branch-from : (t : ℕ) (c : lts.Else3 (Cs t) (value-at-at t) value-at.Post) → c .before .before .before .before .before .second-from .result ≡ cond (eqZ (c .before .before .before .before .before .before .before .before .a .given .0 .1 .0) (pos 0)) (skipTo (c .before .before .before .before .before .before .before .before .a .given .0 .1 .1 .0) (expression (drop (c .before .before .before .before .before .before .before .before .a .given .0 .1 .1 .0) (c .before .before .before .before .before .before .before .before .before .before .before .before .before .before .before .before .args .s .now)))) (c .before .before .before .before .before .before .before .before .a .given .0 .1 .1 .0)
-branch-from t c = from-is t (c .before .before .before .before .before) ∙ rw (three-count t c)
+  abbrev opened : Told-1 → Opened
+  opened c = headed c .before .before
 
-value-at-byte-at-requires : (t : ℕ) → lts.Need-byte-at-requires (Cs t) (value-at-at t) value-at.Post
-value-at-byte-at-requires t c κs = search needs
+  abbrev turned : Told-2 → Turned
+  turned c = c .before .before .before .before
 
-value-at-operands-requires : (t : ℕ) → lts.Need-operands-requires (Cs t) (value-at-at t) value-at.Post
-value-at-operands-requires t c κs = search needs
+  abbrev told : Told-2 → Told-1
+  told c = turned c .before .before
 
-value-at-leaf-value-requires : (t : ℕ) → lts.Need-leaf-value-requires (Cs t) (value-at-at t) value-at.Post
-value-at-leaf-value-requires t c κs = let s = c .before .before .before .before in (s .pre .1 .0, (whole (c .before .before .before .before .args .s .now) (c .before .before .before .before .args .at) (c .before .before .before .before .args .depth) (c .before .before .byte-at .result) (c .before .before .byte-at .ensures) (c .before .before .before .before .pre .1 .0) (c .before .before .before .before .pre .1 .1 .0), rw (sym (c .before .before .byte-at .ensures)) (sym (c .before .operands .ensures .0) ∙ c .if1 .taken)))
+  -- ── what is known there ────────────────────────────────────────────────────────────────────
 
-value-at-returns : (t : ℕ) → lts.Need-returns (Cs t) (value-at-at t) value-at.Post
-value-at-returns t c = c .leaf-value .ensures
+  abbrev call : Opened → Call
+  call c = record {
+    s = start c .args .s .now;
+    at = start c .args .at;
+    depth = start c .args .depth;
+    c = c .before .byte-at .result;
+    k = c .operands .result;
+    head = c .before .byte-at .ensures;
+    count = c .operands .ensures .0;
+    inside = start c .pre .1 .0;
+    fits = start c .pre .1 .1 .0;
+  }
 
-value-at-head-size-requires : (t : ℕ) → lts.Need-head-size-requires (Cs t) (value-at-at t) value-at.Post
-value-at-head-size-requires t c κs = search needs
+  abbrev work : Opened → Work
+  work c = record {
+    call = call c;
+    vs = start c .args .vals .now;
+    ts = start c .args .types .now;
+    ok = start c .pre .1 .1 .1 .1;
+    typed = start c .pre .1 .1 .1 .0;
+  }
 
-value-at-add-here : (t : ℕ) → lts.Need-add-here (Cs t) (value-at-at t) value-at.Post
-value-at-add-here t c = record { fits = omega (arith, rw (sym (c .head-size .ensures .0)) at (head-inside (c .before .before .before .before .before .args .s .now) (c .before .before .before .before .before .args .at) (c .before .before .before .before .before .args .depth) (c .before .before .before .byte-at .result) (c .before .before .before .byte-at .ensures) (c .before .before .before .before .before .pre .1 .0) (c .before .before .before .before .before .pre .1 .1 .0)), c .before .before .before .before .before .good .0 .0) }
+  first-at : (c : Headed) → Operand (work (c .before .before)) [] (c .before .before .operands .result) (start (c .before .before) .args .at + c .head-size .result)
+  first-at c = operand (work (c .before .before)) (begin (call (c .before .before)) (c .head-size .ensures .0)) (pos-of-ne-zero (c .before .if1 .left))
 
-value-at-sub-value-at : (t : ℕ) → lts.Need-sub-value-at (Cs t) (value-at-at t) value-at.Post
-value-at-sub-value-at t c = deep (c .before .before .before .before .before .args .s .now) (c .before .before .before .before .before .args .at) (c .before .before .before .before .before .args .depth) (c .before .before .before .byte-at .result) (c .before .before .before .byte-at .ensures) (c .before .before .before .before .before .pre .1 .0) (c .before .before .before .before .before .pre .1 .1 .0)
+  worked-1 : (c : Told-1) → First (work (opened c)) (c .before .a .given .0 .0) (c .before .a .given .0 .1 .0) (c .before .a .given .0 .1 .1 .0)
+  worked-1 c = first (first-at (headed c)) (sym (c .before .before .before .value-at .ensures) ∙ c .before .a .given .1)
 
-value-at-value-at-requires : (t : ℕ) → lts.Need-value-at-requires (Cs t) (value-at-at t) value-at.Post
-value-at-value-at-requires t c κs = (omega (arith, c .before .before .before .before .before .pre .0, deep (c .before .before .before .before .before .args .s .now) (c .before .before .before .before .before .args .at) (c .before .before .before .before .before .args .depth) (c .before .before .before .byte-at .result) (c .before .before .before .byte-at .ensures) (c .before .before .before .before .before .pre .1 .0) (c .before .before .before .before .before .pre .1 .1 .0)), (rw (c .head-size .ensures .0) (head-inside (c .before .before .before .before .before .args .s .now) (c .before .before .before .before .before .args .at) (c .before .before .before .before .before .args .depth) (c .before .before .before .byte-at .result) (c .before .before .before .byte-at .ensures) (c .before .before .before .before .before .pre .1 .0) (c .before .before .before .before .before .pre .1 .1 .0)), (rw (c .head-size .ensures .0) (first-fits (c .before .before .before .before .before .args .s .now) (c .before .before .before .before .before .args .at) (c .before .before .before .before .before .args .depth) (c .before .before .before .byte-at .result) (c .before .before .before .byte-at .ensures) (c .before .before .before .before .before .pre .1 .0) (c .before .before .before .before .before .pre .1 .1 .0) (some t (c .before))), (rw (c .head-size .ensures .0) (first-typed (c .before .before .before .before .before .args .s .now) (c .before .before .before .before .before .args .at) (c .before .before .before .before .before .args .depth) (c .before .before .before .byte-at .result) (c .before .before .before .byte-at .ensures) (c .before .before .before .before .before .pre .1 .0) (c .before .before .before .before .before .pre .1 .1 .0) (c .before .before .before .before .before .args .vals .now) (c .before .before .before .before .before .args .types .now) (c .before .before .before .before .before .pre .1 .1 .1 .1) (c .before .before .before .before .before .pre .1 .1 .1 .0) (some t (c .before))), c .before .before .before .before .before .pre .1 .1 .1 .1))))
+  two-left : (c : lts.Else2 (Cs t) (value-at-at t) value-at.Post) → 0 < opened (c .before) .operands .result - 1
+  two-left c = two-up _ (headed (c .before) .before .if1 .left) (c .if2 .left)
 
-value-at-enum-known-a : (t : ℕ) → lts.Need-enum-known-a (Cs t) (value-at-at t) value-at.Post
-value-at-enum-known-a t c = search needs
+  second-at : (c : Turned) → Chosen (work (opened (c .before .before))) (c .before .before .before .a .given .0 .0) (c .before .before .before .a .given .0 .1 .0) (c .second-from .result)
+  second-at c = let g = worked-1 (c .before .before) in chosen g (two-left (c .before)) (stored (g .small)) (c .second-from .ensures)
 
-value-at-enum-told : (t : ℕ) → lts.Need-enum-told (Cs t) (value-at-at t) value-at.Post
-value-at-enum-told t c = search needs
+  worked-2 : (c : Told-2) → answerAt (work (opened (told c))) (turned c .second-from .result) ≡ evaluated.Value (c .before .b .given .0 .0) (c .before .b .given .0 .1 .0) (c .before .b .given .0 .1 .1 .0)
+  worked-2 c = sym (c .before .before .before .value-at2 .ensures) ∙ c .before .b .given .1
 
-value-at-returns-2 : (t : ℕ) → lts.Need-returns-2 (Cs t) (value-at-at t) value-at.Post
-value-at-returns-2 t c = c .enum-told .given .1 ∙ sym (exit-first (c .before .before .before .before .before .before .before .before .args .s .now) (c .before .before .before .before .before .before .before .before .args .at) (c .before .before .before .before .before .before .before .before .args .depth) (c .before .before .before .before .before .before .byte-at .result) (c .before .before .before .before .before .before .byte-at .ensures) (c .before .before .before .before .before .before .before .before .pre .1 .0) (c .before .before .before .before .before .before .before .before .pre .1 .1 .0) (c .before .before .before .before .before .before .before .before .args .vals .now) (c .before .before .before .before .before .before .before .before .args .types .now) (c .before .before .before .before .before .before .before .before .pre .1 .1 .1 .1) (c .before .before .before .before .before .before .before .before .pre .1 .1 .1 .0) (some t (c .before .before .before .before)) _ (sym (first-is t (c .before .before)) ∙ c .enum-told .given .1))
+  three : (c : lts.Else3 (Cs t) (value-at-at t) value-at.Post) → opened (told (c .before)) .operands .result ≡ 3
+  three c = three-is (call (opened (told (c .before)))) (two-left (turned (c .before) .before)) (c .if3 .left)
 
-value-at-add-type-at : (t : ℕ) → lts.Need-add-type-at (Cs t) (value-at-at t) value-at.Post
-value-at-add-type-at t c = search needs
+  -- ── the needs ──────────────────────────────────────────────────────────────────────────────
 
-value-at-type-at-requires : (t : ℕ) → lts.Need-type-at-requires (Cs t) (value-at-at t) value-at.Post
-value-at-type-at-requires t c κs = omega (arith, head-inside (c .before .before .before .before .before .before .before .before .before .before .args .s .now) (c .before .before .before .before .before .before .before .before .before .before .args .at) (c .before .before .before .before .before .before .before .before .before .before .args .depth) (c .before .before .before .before .before .before .before .before .byte-at .result) (c .before .before .before .before .before .before .before .before .byte-at .ensures) (c .before .before .before .before .before .before .before .before .before .before .pre .1 .0) (c .before .before .before .before .before .before .before .before .before .before .pre .1 .1 .0), head-pos (c .before .before .before .before .before .before .before .before .byte-at .result), c .before .before .before .before .before .before .before .before .before .before .good .0 .0)
+  value-at-byte-at-requires : lts.Need-byte-at-requires (Cs t) (value-at-at t) value-at.Post
+  value-at-byte-at-requires c κs = search needs
 
-value-at-one-value-requires : (t : ℕ) → lts.Need-one-value-requires (Cs t) (value-at-at t) value-at.Post
-value-at-one-value-requires t c κs = let w = first-small (c .before .before .before .before .before .before .before .before .before .before .before .args .s .now) (c .before .before .before .before .before .before .before .before .before .before .before .args .at) (c .before .before .before .before .before .before .before .before .before .before .before .args .depth) (c .before .before .before .before .before .before .before .before .before .byte-at .result) (c .before .before .before .before .before .before .before .before .before .byte-at .ensures) (c .before .before .before .before .before .before .before .before .before .before .before .pre .1 .0) (c .before .before .before .before .before .before .before .before .before .before .before .pre .1 .1 .0) (c .before .before .before .before .before .before .before .before .before .before .before .args .vals .now) (c .before .before .before .before .before .before .before .before .before .before .before .args .types .now) (c .before .before .before .before .before .before .before .before .before .before .before .pre .1 .1 .1 .1) (c .before .before .before .before .before .before .before .before .before .before .before .pre .1 .1 .1 .0) (some t (c .before .before .before .before .before .before .before)) _ _ _ (first-valued t (c .before .before)) in ((λ e. cast-precise (c .before .before .before .before .before .before .before .before .before .before .before .args .s .now) (c .before .before .before .before .before .before .before .before .before .before .before .args .at) _ (c .before .before .before .before .before .before .before .before .before .byte-at .ensures) (c .type-at .ensures) e (precise (c .before .before .before .before .before .before .before .before .before .before .before .args .s .now) (c .before .before .before .before .before .before .before .before .before .before .before .args .at) (c .before .before .before .before .before .before .before .before .before .before .before .args .depth) (c .before .before .before .before .before .before .before .before .before .byte-at .result) (c .before .before .before .before .before .before .before .before .before .byte-at .ensures) (c .before .before .before .before .before .before .before .before .before .before .before .pre .1 .0) (c .before .before .before .before .before .before .before .before .before .before .before .pre .1 .1 .0))), (w .low, omega (arith, w .high)))
+  value-at-operands-requires : lts.Need-operands-requires (Cs t) (value-at-at t) value-at.Post
+  value-at-operands-requires c κs = search needs
 
-value-at-returns-3 : (t : ℕ) → lts.Need-returns-3 (Cs t) (value-at-at t) value-at.Post
-value-at-returns-3 t c =
-    let a = c .before .before .before .before .before .before .before .before .before .before .before .before .args in
-    let w = first-small (c .before .before .before .before .before .before .before .before .before .before .before .before .args .s .now) (c .before .before .before .before .before .before .before .before .before .before .before .before .args .at) (c .before .before .before .before .before .before .before .before .before .before .before .before .args .depth) (c .before .before .before .before .before .before .before .before .before .before .byte-at .result) (c .before .before .before .before .before .before .before .before .before .before .byte-at .ensures) (c .before .before .before .before .before .before .before .before .before .before .before .before .pre .1 .0) (c .before .before .before .before .before .before .before .before .before .before .before .before .pre .1 .1 .0) (c .before .before .before .before .before .before .before .before .before .before .before .before .args .vals .now) (c .before .before .before .before .before .before .before .before .before .before .before .before .args .types .now) (c .before .before .before .before .before .before .before .before .before .before .before .before .pre .1 .1 .1 .1) (c .before .before .before .before .before .before .before .before .before .before .before .before .pre .1 .1 .1 .0) (some t (c .before .before .before .before .before .before .before .before)) _ _ _ (first-valued t (c .before .before .before)) in
-    c .one-value .ensures ∙ rw (c .before .type-at .ensures, sym (type-drop (a .at) (a .s .now) 1), back {z = c .before .before .before .before .a .given .0 .1 .0} (omega (arith, w .small))) (sym (exit-one (c .before .before .before .before .before .before .before .before .before .before .before .before .args .s .now) (c .before .before .before .before .before .before .before .before .before .before .before .before .args .at) (c .before .before .before .before .before .before .before .before .before .before .before .before .args .depth) (c .before .before .before .before .before .before .before .before .before .before .byte-at .result) (c .before .before .before .before .before .before .before .before .before .before .byte-at .ensures) (c .before .before .before .before .before .before .before .before .before .before .before .before .pre .1 .0) (c .before .before .before .before .before .before .before .before .before .before .before .before .pre .1 .1 .0) (c .before .before .before .before .before .before .before .before .before .before .before .before .args .vals .now) (c .before .before .before .before .before .before .before .before .before .before .before .before .args .types .now) (c .before .before .before .before .before .before .before .before .before .before .before .before .pre .1 .1 .1 .1) (c .before .before .before .before .before .before .before .before .before .before .before .before .pre .1 .1 .1 .0) (some t (c .before .before .before .before .before .before .before .before)) _ _ _ (first-valued t (c .before .before .before)) (sym (c .before .before .before .before .before .before .before .before .before .operands .ensures .0) ∙ c .before .before .if2 .taken)))
+  value-at-leaf-value-requires : lts.Need-leaf-value-requires (Cs t) (value-at-at t) value-at.Post
+  value-at-leaf-value-requires c κs = let x = call (c .before) in (x .inside, (whole x, no-operands x (c .if1 .taken)))
 
-value-at-second-from-requires : (t : ℕ) → lts.Need-second-from-requires (Cs t) (value-at-at t) value-at.Post
-value-at-second-from-requires t c κs = second-inside (c .before .before .before .before .before .before .before .before .before .before .args .s .now) (c .before .before .before .before .before .before .before .before .before .before .args .at) (c .before .before .before .before .before .before .before .before .before .before .args .depth) (c .before .before .before .before .before .before .before .before .byte-at .result) (c .before .before .before .before .before .before .before .before .byte-at .ensures) (c .before .before .before .before .before .before .before .before .before .before .pre .1 .0) (c .before .before .before .before .before .before .before .before .before .before .pre .1 .1 .0) (c .before .before .before .before .before .before .before .before .before .before .args .vals .now) (c .before .before .before .before .before .before .before .before .before .before .args .types .now) (c .before .before .before .before .before .before .before .before .before .before .pre .1 .1 .1 .1) (c .before .before .before .before .before .before .before .before .before .before .pre .1 .1 .1 .0) (some t (c .before .before .before .before .before .before)) _ _ _ (first-valued t (c .before)) (two-left t c)
+  value-at-returns : lts.Need-returns (Cs t) (value-at-at t) value-at.Post
+  value-at-returns c = c .leaf-value .ensures
 
-value-at-sub-value-at-2 : (t : ℕ) → lts.Need-sub-value-at-2 (Cs t) (value-at-at t) value-at.Post
-value-at-sub-value-at-2 t c = deep (c .before .before .before .before .before .before .before .before .before .before .before .args .s .now) (c .before .before .before .before .before .before .before .before .before .before .before .args .at) (c .before .before .before .before .before .before .before .before .before .before .before .args .depth) (c .before .before .before .before .before .before .before .before .before .byte-at .result) (c .before .before .before .before .before .before .before .before .before .byte-at .ensures) (c .before .before .before .before .before .before .before .before .before .before .before .pre .1 .0) (c .before .before .before .before .before .before .before .before .before .before .before .pre .1 .1 .0)
+  value-at-head-size-requires : lts.Need-head-size-requires (Cs t) (value-at-at t) value-at.Post
+  value-at-head-size-requires c κs = search needs
 
-value-at-value-at-requires-2 : (t : ℕ) → lts.Need-value-at-requires-2 (Cs t) (value-at-at t) value-at.Post
-value-at-value-at-requires-2 t c κs = let w = site (c .before .before .before .before .before .before .before .before .before .before .before .args .s .now) (c .before .before .before .before .before .before .before .before .before .before .before .args .at) (c .before .before .before .before .before .before .before .before .before .before .before .args .depth) (c .before .before .before .before .before .before .before .before .before .byte-at .result) (c .before .before .before .before .before .before .before .before .before .byte-at .ensures) (c .before .before .before .before .before .before .before .before .before .before .before .pre .1 .0) (c .before .before .before .before .before .before .before .before .before .before .before .pre .1 .1 .0) (c .before .before .before .before .before .before .before .before .before .before .before .args .vals .now) (c .before .before .before .before .before .before .before .before .before .before .before .args .types .now) (c .before .before .before .before .before .before .before .before .before .before .before .pre .1 .1 .1 .1) (c .before .before .before .before .before .before .before .before .before .before .before .pre .1 .1 .1 .0) (some t (c .before .before .before .before .before .before .before)) _ _ _ (first-valued t (c .before .before)) (two-left t (c .before)) _ (from-is t c) in (omega (arith, c .before .before .before .before .before .before .before .before .before .before .before .pre .0, deep (c .before .before .before .before .before .before .before .before .before .before .before .args .s .now) (c .before .before .before .before .before .before .before .before .before .before .before .args .at) (c .before .before .before .before .before .before .before .before .before .before .before .args .depth) (c .before .before .before .before .before .before .before .before .before .byte-at .result) (c .before .before .before .before .before .before .before .before .before .byte-at .ensures) (c .before .before .before .before .before .before .before .before .before .before .before .pre .1 .0) (c .before .before .before .before .before .before .before .before .before .before .before .pre .1 .1 .0)), (w .0, (w .1 .0, (w .1 .1, c .before .before .before .before .before .before .before .before .before .before .before .pre .1 .1 .1 .1))))
+  value-at-add-here : lts.Need-add-here (Cs t) (value-at-at t) value-at.Post
+  value-at-add-here c = record { fits = omega (arith, first-at c .next .inside, start (c .before .before) .good .0 .0) }
 
-value-at-enum-known-b : (t : ℕ) → lts.Need-enum-known-b (Cs t) (value-at-at t) value-at.Post
-value-at-enum-known-b t c = search needs
+  value-at-sub-value-at : lts.Need-sub-value-at (Cs t) (value-at-at t) value-at.Post
+  value-at-sub-value-at c = deep (call (c .before .before))
 
-value-at-enum-told-2 : (t : ℕ) → lts.Need-enum-told-2 (Cs t) (value-at-at t) value-at.Post
-value-at-enum-told-2 t c = search needs
+  value-at-value-at-requires : lts.Need-value-at-requires (Cs t) (value-at-at t) value-at.Post
+  value-at-value-at-requires c κs = asked (first-at c) (start (c .before .before) .pre .0)
 
-value-at-returns-4 : (t : ℕ) → lts.Need-returns-4 (Cs t) (value-at-at t) value-at.Post
-value-at-returns-4 t c = c .enum-told2 .given .1 ∙ sym (exit-second (c .before .before .before .before .before .before .before .before .before .before .before .before .before .before .args .s .now) (c .before .before .before .before .before .before .before .before .before .before .before .before .before .before .args .at) (c .before .before .before .before .before .before .before .before .before .before .before .before .before .before .args .depth) (c .before .before .before .before .before .before .before .before .before .before .before .before .byte-at .result) (c .before .before .before .before .before .before .before .before .before .before .before .before .byte-at .ensures) (c .before .before .before .before .before .before .before .before .before .before .before .before .before .before .pre .1 .0) (c .before .before .before .before .before .before .before .before .before .before .before .before .before .before .pre .1 .1 .0) (c .before .before .before .before .before .before .before .before .before .before .before .before .before .before .args .vals .now) (c .before .before .before .before .before .before .before .before .before .before .before .before .before .before .args .types .now) (c .before .before .before .before .before .before .before .before .before .before .before .before .before .before .pre .1 .1 .1 .1) (c .before .before .before .before .before .before .before .before .before .before .before .before .before .before .pre .1 .1 .1 .0) (some t (c .before .before .before .before .before .before .before .before .before .before)) _ _ _ (first-valued t (c .before .before .before .before .before)) (two-left t (c .before .before .before .before)) _ _ (from-is t (c .before .before .before)) (sym (c .before .before .value-at2 .ensures) ∙ c .enum-told2 .given .1))
+  value-at-enum-known-a : lts.Need-enum-known-a (Cs t) (value-at-at t) value-at.Post
+  value-at-enum-known-a c = search needs
 
-value-at-two-value-requires : (t : ℕ) → lts.Need-two-value-requires (Cs t) (value-at-at t) value-at.Post
-value-at-two-value-requires t c κs = let w = first-small (c .before .before .before .before .before .before .before .before .before .before .before .before .before .before .before .before .args .s .now) (c .before .before .before .before .before .before .before .before .before .before .before .before .before .before .before .before .args .at) (c .before .before .before .before .before .before .before .before .before .before .before .before .before .before .before .before .args .depth) (c .before .before .before .before .before .before .before .before .before .before .before .before .before .before .byte-at .result) (c .before .before .before .before .before .before .before .before .before .before .before .before .before .before .byte-at .ensures) (c .before .before .before .before .before .before .before .before .before .before .before .before .before .before .before .before .pre .1 .0) (c .before .before .before .before .before .before .before .before .before .before .before .before .before .before .before .before .pre .1 .1 .0) (c .before .before .before .before .before .before .before .before .before .before .before .before .before .before .before .before .args .vals .now) (c .before .before .before .before .before .before .before .before .before .before .before .before .before .before .before .before .args .types .now) (c .before .before .before .before .before .before .before .before .before .before .before .before .before .before .before .before .pre .1 .1 .1 .1) (c .before .before .before .before .before .before .before .before .before .before .before .before .before .before .before .before .pre .1 .1 .1 .0) (some t (c .before .before .before .before .before .before .before .before .before .before .before .before)) _ _ _ (first-valued t (c .before .before .before .before .before .before .before)) in let v = exit-two (c .before .before .before .before .before .before .before .before .before .before .before .before .before .before .before .before .args .s .now) (c .before .before .before .before .before .before .before .before .before .before .before .before .before .before .before .before .args .at) (c .before .before .before .before .before .before .before .before .before .before .before .before .before .before .before .before .args .depth) (c .before .before .before .before .before .before .before .before .before .before .before .before .before .before .byte-at .result) (c .before .before .before .before .before .before .before .before .before .before .before .before .before .before .byte-at .ensures) (c .before .before .before .before .before .before .before .before .before .before .before .before .before .before .before .before .pre .1 .0) (c .before .before .before .before .before .before .before .before .before .before .before .before .before .before .before .before .pre .1 .1 .0) (c .before .before .before .before .before .before .before .before .before .before .before .before .before .before .before .before .args .vals .now) (c .before .before .before .before .before .before .before .before .before .before .before .before .before .before .before .before .args .types .now) (c .before .before .before .before .before .before .before .before .before .before .before .before .before .before .before .before .pre .1 .1 .1 .1) (c .before .before .before .before .before .before .before .before .before .before .before .before .before .before .before .before .pre .1 .1 .1 .0) (some t (c .before .before .before .before .before .before .before .before .before .before .before .before)) _ _ _ (first-valued t (c .before .before .before .before .before .before .before)) (two-left t (c .before .before .before .before .before .before)) _ _ _ (two-count t c) (two-valued t c) .0 in ((w .low, w .high), (rw (back {z = c .before .before .before .before .before .before .before .before .a .given .0 .1 .0} (omega (arith, w .small))) (w .small), rw (back {z = c .before .before .b .given .0 .1 .0} (omega (arith, v .small))) (v .small)))
+  value-at-enum-told : lts.Need-enum-told (Cs t) (value-at-at t) value-at.Post
+  value-at-enum-told c = search needs
 
-value-at-returns-5 : (t : ℕ) → lts.Need-returns-5 (Cs t) (value-at-at t) value-at.Post
-value-at-returns-5 t c =
-    let w = first-small (c .before .before .before .before .before .before .before .before .before .before .before .before .before .before .before .before .before .args .s .now) (c .before .before .before .before .before .before .before .before .before .before .before .before .before .before .before .before .before .args .at) (c .before .before .before .before .before .before .before .before .before .before .before .before .before .before .before .before .before .args .depth) (c .before .before .before .before .before .before .before .before .before .before .before .before .before .before .before .byte-at .result) (c .before .before .before .before .before .before .before .before .before .before .before .before .before .before .before .byte-at .ensures) (c .before .before .before .before .before .before .before .before .before .before .before .before .before .before .before .before .before .pre .1 .0) (c .before .before .before .before .before .before .before .before .before .before .before .before .before .before .before .before .before .pre .1 .1 .0) (c .before .before .before .before .before .before .before .before .before .before .before .before .before .before .before .before .before .args .vals .now) (c .before .before .before .before .before .before .before .before .before .before .before .before .before .before .before .before .before .args .types .now) (c .before .before .before .before .before .before .before .before .before .before .before .before .before .before .before .before .before .pre .1 .1 .1 .1) (c .before .before .before .before .before .before .before .before .before .before .before .before .before .before .before .before .before .pre .1 .1 .1 .0) (some t (c .before .before .before .before .before .before .before .before .before .before .before .before .before)) _ _ _ (first-valued t (c .before .before .before .before .before .before .before .before)) in
-    let v = exit-two (c .before .before .before .before .before .before .before .before .before .before .before .before .before .before .before .before .before .args .s .now) (c .before .before .before .before .before .before .before .before .before .before .before .before .before .before .before .before .before .args .at) (c .before .before .before .before .before .before .before .before .before .before .before .before .before .before .before .before .before .args .depth) (c .before .before .before .before .before .before .before .before .before .before .before .before .before .before .before .byte-at .result) (c .before .before .before .before .before .before .before .before .before .before .before .before .before .before .before .byte-at .ensures) (c .before .before .before .before .before .before .before .before .before .before .before .before .before .before .before .before .before .pre .1 .0) (c .before .before .before .before .before .before .before .before .before .before .before .before .before .before .before .before .before .pre .1 .1 .0) (c .before .before .before .before .before .before .before .before .before .before .before .before .before .before .before .before .before .args .vals .now) (c .before .before .before .before .before .before .before .before .before .before .before .before .before .before .before .before .before .args .types .now) (c .before .before .before .before .before .before .before .before .before .before .before .before .before .before .before .before .before .pre .1 .1 .1 .1) (c .before .before .before .before .before .before .before .before .before .before .before .before .before .before .before .before .before .pre .1 .1 .1 .0) (some t (c .before .before .before .before .before .before .before .before .before .before .before .before .before)) _ _ _ (first-valued t (c .before .before .before .before .before .before .before .before)) (two-left t (c .before .before .before .before .before .before .before)) _ _ _ (two-count t (c .before)) (two-valued t (c .before)) in
-    c .two-value .ensures ∙ rw (back {z = c .before .before .before .before .before .before .before .before .before .a .given .0 .1 .0} (omega (arith, w .small)), back {z = c .before .before .before .b .given .0 .1 .0} (omega (arith, v .0 .small))) (sym (v .1))
+  value-at-returns-2 : lts.Need-returns-2 (Cs t) (value-at-at t) value-at.Post
+  value-at-returns-2 c =
+      let o = c .before .before in
+      let e = c .enum-told .given .1 in
+      e ∙ sym (exit-first (first-at (o .before)) _ (sym (o .value-at .ensures) ∙ e))
 
-value-at-if-end-requires : (t : ℕ) → lts.Need-if-end-requires (Cs t) (value-at-at t) value-at.Post
-value-at-if-end-requires t c κs = exit-if (c .before .before .before .before .before .before .before .before .before .before .before .before .before .before .before .before .args .s .now) (c .before .before .before .before .before .before .before .before .before .before .before .before .before .before .before .before .args .at) (c .before .before .before .before .before .before .before .before .before .before .before .before .before .before .before .before .args .depth) (c .before .before .before .before .before .before .before .before .before .before .before .before .before .before .byte-at .result) (c .before .before .before .before .before .before .before .before .before .before .before .before .before .before .byte-at .ensures) (c .before .before .before .before .before .before .before .before .before .before .before .before .before .before .before .before .pre .1 .0) (c .before .before .before .before .before .before .before .before .before .before .before .before .before .before .before .before .pre .1 .1 .0) (c .before .before .before .before .before .before .before .before .before .before .before .before .before .before .before .before .args .vals .now) (c .before .before .before .before .before .before .before .before .before .before .before .before .before .before .before .before .args .types .now) (c .before .before .before .before .before .before .before .before .before .before .before .before .before .before .before .before .pre .1 .1 .1 .1) (c .before .before .before .before .before .before .before .before .before .before .before .before .before .before .before .before .pre .1 .1 .1 .0) (some t (c .before .before .before .before .before .before .before .before .before .before .before .before)) _ _ _ (first-valued t (c .before .before .before .before .before .before .before)) (two-left t (c .before .before .before .before .before .before)) _ _ _ _ 0 (three-count t c) (branch-from t c) (sym (c .before .before .before .before .value-at2 .ensures) ∙ c .before .before .b .given .1) .0
+  value-at-add-type-at : lts.Need-add-type-at (Cs t) (value-at-at t) value-at.Post
+  value-at-add-type-at c = search needs
 
-value-at-returns-6 : (t : ℕ) → lts.Need-returns-6 (Cs t) (value-at-at t) value-at.Post
-value-at-returns-6 t c =
-    let w = first-small (c .before .before .before .before .before .before .before .before .before .before .before .before .before .before .before .before .before .args .s .now) (c .before .before .before .before .before .before .before .before .before .before .before .before .before .before .before .before .before .args .at) (c .before .before .before .before .before .before .before .before .before .before .before .before .before .before .before .before .before .args .depth) (c .before .before .before .before .before .before .before .before .before .before .before .before .before .before .before .byte-at .result) (c .before .before .before .before .before .before .before .before .before .before .before .before .before .before .before .byte-at .ensures) (c .before .before .before .before .before .before .before .before .before .before .before .before .before .before .before .before .before .pre .1 .0) (c .before .before .before .before .before .before .before .before .before .before .before .before .before .before .before .before .before .pre .1 .1 .0) (c .before .before .before .before .before .before .before .before .before .before .before .before .before .before .before .before .before .args .vals .now) (c .before .before .before .before .before .before .before .before .before .before .before .before .before .before .before .before .before .args .types .now) (c .before .before .before .before .before .before .before .before .before .before .before .before .before .before .before .before .before .pre .1 .1 .1 .1) (c .before .before .before .before .before .before .before .before .before .before .before .before .before .before .before .before .before .pre .1 .1 .1 .0) (some t (c .before .before .before .before .before .before .before .before .before .before .before .before .before)) _ _ _ (first-valued t (c .before .before .before .before .before .before .before .before)) in
-    let e = rw (back {z = c .before .before .before .before .before .before .before .before .before .a .given .0 .1 .0} (omega (arith, w .small))) at (c .if-end .ensures) in
-    let r = sym (c .before .before .before .before .before .value-at2 .ensures) ∙ c .before .before .before .b .given .1 in
-    let v = if-small (c .before .before .before .before .before .before .before .before .before .before .before .before .before .before .before .before .before .args .s .now) (c .before .before .before .before .before .before .before .before .before .before .before .before .before .before .before .before .before .args .at) (c .before .before .before .before .before .before .before .before .before .before .before .before .before .before .before .before .before .args .depth) (c .before .before .before .before .before .before .before .before .before .before .before .before .before .before .before .byte-at .result) (c .before .before .before .before .before .before .before .before .before .before .before .before .before .before .before .byte-at .ensures) (c .before .before .before .before .before .before .before .before .before .before .before .before .before .before .before .before .before .pre .1 .0) (c .before .before .before .before .before .before .before .before .before .before .before .before .before .before .before .before .before .pre .1 .1 .0) (c .before .before .before .before .before .before .before .before .before .before .before .before .before .before .before .before .before .args .vals .now) (c .before .before .before .before .before .before .before .before .before .before .before .before .before .before .before .before .before .args .types .now) (c .before .before .before .before .before .before .before .before .before .before .before .before .before .before .before .before .before .pre .1 .1 .1 .1) (c .before .before .before .before .before .before .before .before .before .before .before .before .before .before .before .before .before .pre .1 .1 .1 .0) (some t (c .before .before .before .before .before .before .before .before .before .before .before .before .before)) _ _ _ (first-valued t (c .before .before .before .before .before .before .before .before)) (two-left t (c .before .before .before .before .before .before .before)) _ _ _ _ (three-count t (c .before)) (branch-from t (c .before)) r in
-    ap (λ (z : ℤ). evaluated.Value (c .before .before .before .b .given .0 .0) z (c .if-end .result)) (back {z = c .before .before .before .b .given .0 .1 .0} (omega (arith, v .small))) ∙ sym (exit-if (c .before .before .before .before .before .before .before .before .before .before .before .before .before .before .before .before .before .args .s .now) (c .before .before .before .before .before .before .before .before .before .before .before .before .before .before .before .before .before .args .at) (c .before .before .before .before .before .before .before .before .before .before .before .before .before .before .before .before .before .args .depth) (c .before .before .before .before .before .before .before .before .before .before .before .before .before .before .before .byte-at .result) (c .before .before .before .before .before .before .before .before .before .before .before .before .before .before .before .byte-at .ensures) (c .before .before .before .before .before .before .before .before .before .before .before .before .before .before .before .before .before .pre .1 .0) (c .before .before .before .before .before .before .before .before .before .before .before .before .before .before .before .before .before .pre .1 .1 .0) (c .before .before .before .before .before .before .before .before .before .before .before .before .before .before .before .before .before .args .vals .now) (c .before .before .before .before .before .before .before .before .before .before .before .before .before .before .before .before .before .args .types .now) (c .before .before .before .before .before .before .before .before .before .before .before .before .before .before .before .before .before .pre .1 .1 .1 .1) (c .before .before .before .before .before .before .before .before .before .before .before .before .before .before .before .before .before .pre .1 .1 .1 .0) (some t (c .before .before .before .before .before .before .before .before .before .before .before .before .before)) _ _ _ (first-valued t (c .before .before .before .before .before .before .before .before)) (two-left t (c .before .before .before .before .before .before .before)) _ _ _ _ _ (three-count t (c .before)) (branch-from t (c .before)) r .1 e)
+  value-at-type-at-requires : lts.Need-type-at-requires (Cs t) (value-at-at t) value-at.Post
+  value-at-type-at-requires c κs = let o = opened (c .before) in omega (arith, head-inside (call o), head-pos (call o .c), start o .good .0 .0)
+
+  value-at-one-value-requires : lts.Need-one-value-requires (Cs t) (value-at-at t) value-at.Post
+  value-at-one-value-requires c κs =
+      let w = worked-1 (c .before .before) .small in
+      ((λ e. cast-precise (call (opened (c .before .before))) (c .type-at .ensures) e), (w .low, omega (arith, w .high)))
+
+  value-at-returns-3 : lts.Need-returns-3 (Cs t) (value-at-at t) value-at.Post
+  value-at-returns-3 c =
+      let g = worked-1 (c .before .before .before) in
+      c .one-value .ensures ∙ sym (exit-one g (c .before .before .if2 .taken) (c .before .type-at .ensures) (stored (g .small)))
+
+  value-at-second-from-requires : lts.Need-second-from-requires (Cs t) (value-at-at t) value-at.Post
+  value-at-second-from-requires c κs = worked-1 (c .before) .reached .inside
+
+  value-at-sub-value-at-2 : lts.Need-sub-value-at-2 (Cs t) (value-at-at t) value-at.Post
+  value-at-sub-value-at-2 c = deep (call (opened (c .before .before)))
+
+  value-at-value-at-requires-2 : lts.Need-value-at-requires-2 (Cs t) (value-at-at t) value-at.Post
+  value-at-value-at-requires-2 c κs = asked (second-at c .it) (start (opened (c .before .before)) .pre .0)
+
+  value-at-enum-known-b : lts.Need-enum-known-b (Cs t) (value-at-at t) value-at.Post
+  value-at-enum-known-b c = search needs
+
+  value-at-enum-told-2 : lts.Need-enum-told-2 (Cs t) (value-at-at t) value-at.Post
+  value-at-enum-told-2 c = search needs
+
+  value-at-returns-4 : lts.Need-returns-4 (Cs t) (value-at-at t) value-at.Post
+  value-at-returns-4 c =
+      let o = c .before .before in
+      let e = c .enum-told2 .given .1 in
+      e ∙ sym (exit-second (second-at (o .before)) _ (two-left (o .before .before)) (sym (o .value-at2 .ensures) ∙ e))
+
+  value-at-two-value-requires : lts.Need-two-value-requires (Cs t) (value-at-at t) value-at.Post
+  value-at-two-value-requires c κs =
+      let v = worked-1 (told (c .before)) .small in
+      let w = small (second-at (turned (c .before)) .it) (worked-2 (c .before)) in
+      ((v .low, v .high), (rw (stored v) (v .small), rw (stored w) (w .small)))
+
+  value-at-returns-5 : lts.Need-returns-5 (Cs t) (value-at-at t) value-at.Post
+  value-at-returns-5 c =
+      let o = c .before .before in
+      let g = second-at (turned o) in
+      let a = worked-2 o in
+      c .two-value .ensures ∙ sym (exit-two g a (c .before .if3 .taken) (stored (worked-1 (told o) .small)) (stored (small (g .it) a)))
+
+  value-at-if-end-requires : lts.Need-if-end-requires (Cs t) (value-at-at t) value-at.Post
+  value-at-if-end-requires c κs = ends-inside (second-at (turned (c .before)) .it) (worked-2 (c .before))
+
+  value-at-returns-6 : lts.Need-returns-6 (Cs t) (value-at-at t) value-at.Post
+  value-at-returns-6 c =
+      let o = c .before .before in
+      let g = second-at (turned o) in
+      let a = worked-2 o in
+      exit-if g a (three (c .before)) (stored (worked-1 (told o) .small)) (stored (small (g .it) a)) (c .if-end .ensures)
 
 pub +value-at-spec : {M : Type 1} → statement M
 +value-at-spec = close μ-value-at λ t. lts.spec (Cs t)

@@ -1,11 +1,12 @@
 use mathlib.Core.Path.{_≡_, refl, sym, _∙_}
+use mathlib.Core.Bool.{true}
 use Prim.Native.Nat.{ℕ, _+_, _-_, _<_, _≤_}
 use native.Mathlib.Nat.{pos-of-ne-zero}
 use native.Mathlib.Omega.{arith}
 use borrow.Author.Needs.{needs}
 use borrow.Author.Tests.{not-true, not-false}
 use lib.ListN.{length, drop, getD}
-use Rattle.model.specs.Expressions.{expression}
+use Rattle.model.specs.Expressions.{headFits, expression}
 use Rattle.expressions.specs.Reading.{limitsAt}
 use Rattle.expressions.proofs.Reading.{head-pos}
 use Rattle.expressions.proofs.Heads.{head-at, fits-whole}
@@ -41,72 +42,135 @@ abbrev μ : lts.MeasureT-loop
 
 -- what the calls ask and answer
 abbrev Cs : ℕ → lts.Claims
-Cs t = (head-fits-reads.Asked, head-fits-reads.Learnt, precise-head-reads.Asked, precise-head-reads.Learnt, byte-at-reads.Asked, byte-at-reads.Learnt, head-size-reads.Asked, head-size-reads.Learnt, operands-reads.Asked, operands-reads.Learnt, limits-at-below t, limits-at.Post)
+Cs t = (
+  head-fits-reads.Asked,
+  head-fits-reads.Learnt,
+  precise-head-reads.Asked,
+  precise-head-reads.Learnt,
+  byte-at-reads.Asked,
+  byte-at-reads.Learnt,
+  head-size-reads.Asked,
+  head-size-reads.Learnt,
+  operands-reads.Asked,
+  operands-reads.Learnt,
+  limits-at-below t,
+  limits-at.Post,
+)
 
-returns : (t : ℕ) → lts.Need-returns (Cs t) (limits-at-at t) limits-at.Post Inv μ
-returns t c = let a = c .before .before .args in rw (c .if1 .taken) (sym (no-depth (a .at) (expression (drop (a .at) (a .s .now)))))
+module _ (t : ℕ) where
+  -- ── places ─────────────────────────────────────────────────────────────────────────────────
 
-head-fits-requires : (t : ℕ) → lts.Need-head-fits-requires (Cs t) (limits-at-at t) limits-at.Post Inv μ
-head-fits-requires t c κs = search needs
+  abbrev Fitting : Type 0  -- the head fits
+  Fitting = lts.Else2 (Cs t) (limits-at-at t) limits-at.Post Inv μ
 
-returns-2 : (t : ℕ) → lts.Need-returns-2 (Cs t) (limits-at-at t) limits-at.Post Inv μ
-returns-2 t c = let a = c .before .before .before .before .args in sym (limits-none (a .s .now) (a .at) (a .depth) (sym (c .before .head-fits .ensures) ∙ not-true _ (c .if2 .taken)))
+  abbrev Sized : Type 0  -- and its bytes are counted
+  Sized = lts.After-head-size (Cs t) (limits-at-at t) limits-at.Post Inv μ
 
-precise-head-requires : (t : ℕ) → lts.Need-precise-head-requires (Cs t) (limits-at-at t) limits-at.Post Inv μ
-precise-head-requires t c κs = let a = c .before .before .before .before .args in omega (arith, fits-whole (a .s .now) (a .at) (getD (a .s .now) (a .at) 0) refl (sym (c .before .head-fits .ensures) ∙ not-false _ (c .if2 .left)) (omega arith), head-pos (getD (a .s .now) (a .at) 0))
+  abbrev Turn : Type 0  -- and an operand is left
+  Turn = lts.In-loop (Cs t) (limits-at-at t) limits-at.Post Inv μ
 
-returns-3 : (t : ℕ) → lts.Need-returns-3 (Cs t) (limits-at-at t) limits-at.Post Inv μ
-returns-3 t c = let a = c .before .before .before .before .before .before .args in sym (limits-imprecise (a .s .now) (a .at) _ (head-at (a .at) (a .s .now)) (sym (c .before .before .before .head-fits .ensures) ∙ not-false _ (c .before .before .if2 .left)) (a .depth) (c .before .before .before .before .if1 .left) (sym (c .before .precise-head .ensures) ∙ not-true _ (c .if3 .taken)))
+  abbrev start : Fitting → lts.Start (Cs t) (limits-at-at t) limits-at.Post Inv μ
+  start c = c .before .before .before .before
 
-byte-at-requires : (t : ℕ) → lts.Need-byte-at-requires (Cs t) (limits-at-at t) limits-at.Post Inv μ
-byte-at-requires t c κs = search needs
+  abbrev fitted : Sized → Fitting
+  fitted c = c .before .before .before .before
 
-head-size-requires : (t : ℕ) → lts.Need-head-size-requires (Cs t) (limits-at-at t) limits-at.Post Inv μ
-head-size-requires t c κs = search needs
+  abbrev turned : Turn → Fitting
+  turned c = fitted (c .before .before .before)
 
--- the head that fits ends within the bytes
-inside : (t : ℕ) (c : lts.After-head-size (Cs t) (limits-at-at t) limits-at.Post Inv μ) → c .before .before .before .before .before .before .before .before .args .at + c .head-size .result ≤ length (c .before .before .before .before .before .before .before .before .args .s .now)
-inside t c =
-    let a = c .before .before .before .before .before .before .before .before .args in
-    rw (c .head-size .ensures .0) (fits-whole (a .s .now) (a .at) _ (c .before .byte-at .ensures) (sym (c .before .before .before .before .before .head-fits .ensures) ∙ not-false _ (c .before .before .before .before .if2 .left)) (omega arith))
+  -- ── what is known there ────────────────────────────────────────────────────────────────────
 
-add-next : (t : ℕ) → lts.Need-add-next (Cs t) (limits-at-at t) limits-at.Post Inv μ
-add-next t c = record { fits = omega (arith, inside t c, c .before .before .before .before .before .before .before .before .good .0 .0) }
+  fits : (c : Fitting) → headFits (drop (start c .args .at) (start c .args .s .now)) ≡ true
+  fits c = sym (c .before .head-fits .ensures) ∙ not-false _ (c .if2 .left)
 
-operands-requires : (t : ℕ) → lts.Need-operands-requires (Cs t) (limits-at-at t) limits-at.Post Inv μ
-operands-requires t c κs = search needs
+  deep : (c : Fitting) → start c .args .depth ≡ 0 → ⊥
+  deep c = c .before .before .if1 .left
 
-loop-holds : (t : ℕ) → lts.Need-loop-holds (Cs t) (limits-at-at t) limits-at.Post Inv μ
-loop-holds t c =
-    let a = c .before .before .before .before .before .before .before .before .before .args in
-    let h = head-at (a .at) (a .s .now) ∙ sym (c .before .before .byte-at .ensures) in
-    (inside t (c .before), rw (c .operands .ensures .0, c .before .head-size .ensures .0) (sym (limits-start (a .s .now) (a .at) _ h (sym (c .before .before .before .before .before .before .head-fits .ensures) ∙ not-false _ (c .before .before .before .before .before .if2 .left)) (a .depth) (c .before .before .before .before .before .before .before .if1 .left) (sym (c .before .before .before .before .precise-head .ensures) ∙ not-false _ (c .before .before .before .if3 .left)))))
+  -- the head that fits ends within the bytes
+  inside : (c : Sized) → start (fitted c) .args .at + c .head-size .result ≤ length (start (fitted c) .args .s .now)
+  inside c =
+      let s = start (fitted c) in
+      omega (arith, c .head-size .ensures .0, fits-whole (s .args .s .now) (s .args .at) _ (c .before .byte-at .ensures) (fits (fitted c)) (s .pre .1))
 
-sub-limits-at : (t : ℕ) → lts.Need-sub-limits-at (Cs t) (limits-at-at t) limits-at.Post Inv μ
-sub-limits-at t c = pos-of-ne-zero (c .before .before .before .before .before .before .before .before .before .if1 .left)
+  -- ── the needs ──────────────────────────────────────────────────────────────────────────────
 
-limits-at-requires : (t : ℕ) → lts.Need-limits-at-requires (Cs t) (limits-at-at t) limits-at.Post Inv μ
-limits-at-requires t c κs = (omega (arith, c .before .before .before .before .before .before .before .before .before .before .before .pre .0, pos-of-ne-zero (c .before .before .before .before .before .before .before .before .before .if1 .left)), c .before .loop .inv .0)
+  returns : lts.Need-returns (Cs t) (limits-at-at t) limits-at.Post Inv μ
+  returns c = let a = c .before .before .args in rw (c .if1 .taken) (sym (no-depth (a .at) (expression (drop (a .at) (a .s .now)))))
 
-returns-4 : (t : ℕ) → lts.Need-returns-4 (Cs t) (limits-at-at t) limits-at.Post Inv μ
-returns-4 t c = let a = c .before .before .before .before .before .before .before .before .before .before .before .before .before .args in let i = c .before .before .before .loop in (sym (walk-bad (a .depth - 1) (a .s .now) (i .left) (i .next) (c .before .before .loop-test .taken) (sym (c .before .limits-at .ensures) ∙ c .if4 .taken)) ∙ i .inv .1)
+  head-fits-requires : lts.Need-head-fits-requires (Cs t) (limits-at-at t) limits-at.Post Inv μ
+  head-fits-requires c κs = search needs
 
-sub-left : (t : ℕ) → lts.Need-sub-left (Cs t) (limits-at-at t) limits-at.Post Inv μ
-sub-left t c = search needs
+  returns-2 : lts.Need-returns-2 (Cs t) (limits-at-at t) limits-at.Post Inv μ
+  returns-2 c =
+      let a = c .before .before .before .before .args in
+      sym (limits-none (a .s .now) (a .at) (a .depth) (sym (c .before .head-fits .ensures) ∙ not-true _ (c .if2 .taken)))
 
-loop-less : (t : ℕ) → lts.Need-loop-less (Cs t) (limits-at-at t) limits-at.Post Inv μ
-loop-less t c = omega arith
+  precise-head-requires : lts.Need-precise-head-requires (Cs t) (limits-at-at t) limits-at.Post Inv μ
+  precise-head-requires c κs =
+      let a = start c .args in
+      let h = getD (a .s .now) (a .at) 0 in
+      omega (arith, fits-whole (a .s .now) (a .at) h refl (fits c) (start c .pre .1), head-pos h)
 
-loop-again : (t : ℕ) → lts.Need-loop-again (Cs t) (limits-at-at t) limits-at.Post Inv μ
-loop-again t c =
-    let a = c .before .before .before .before .before .before .before .before .before .before .before .before .before .args in
-    let i = c .before .before .before .loop in (
-      rw (c .before .limits-at .ensures) (limits-within (a .depth - 1) (a .s .now) (i .next) (i .inv .0)),
-      sym (walk-good (a .depth - 1) (a .s .now) (i .left) (i .next) _ (c .before .before .loop-test .taken) (sym (c .before .limits-at .ensures)) (c .if4 .left)) ∙ i .inv .1,
-    )
+  returns-3 : lts.Need-returns-3 (Cs t) (limits-at-at t) limits-at.Post Inv μ
+  returns-3 c =
+      let f = c .before .before in
+      let a = start f .args in
+      sym (limits-imprecise (a .s .now) (a .at) _ (head-at (a .at) (a .s .now)) (fits f) (a .depth) (deep f) (sym (c .before .precise-head .ensures) ∙ not-true _ (c .if3 .taken)))
 
-returns-5 : (t : ℕ) → lts.Need-returns-5 (Cs t) (limits-at-at t) limits-at.Post Inv μ
-returns-5 t c = let a = c .before .before .before .before .before .before .before .before .before .before .before .args in let i = c .before .loop in sym (walk-done (a .depth - 1) (a .s .now) (i .left) (i .next) (c .loop-test .left)) ∙ i .inv .1
+  byte-at-requires : lts.Need-byte-at-requires (Cs t) (limits-at-at t) limits-at.Post Inv μ
+  byte-at-requires c κs = search needs
+
+  head-size-requires : lts.Need-head-size-requires (Cs t) (limits-at-at t) limits-at.Post Inv μ
+  head-size-requires c κs = search needs
+
+  add-next : lts.Need-add-next (Cs t) (limits-at-at t) limits-at.Post Inv μ
+  add-next c = record { fits = omega (arith, inside c, start (fitted c) .good .0 .0) }
+
+  operands-requires : lts.Need-operands-requires (Cs t) (limits-at-at t) limits-at.Post Inv μ
+  operands-requires c κs = search needs
+
+  loop-holds : lts.Need-loop-holds (Cs t) (limits-at-at t) limits-at.Post Inv μ
+  loop-holds c =
+      let b = c .before .before in
+      let f = fitted (c .before) in
+      let a = start f .args in
+      let h = head-at (a .at) (a .s .now) ∙ sym (b .byte-at .ensures) in
+      let p = sym (b .before .before .precise-head .ensures) ∙ not-false _ (b .before .if3 .left) in
+      (inside (c .before), rw (c .operands .ensures .0, c .before .head-size .ensures .0) (sym (limits-start (a .s .now) (a .at) _ h (fits f) (a .depth) (deep f) p)))
+
+  sub-limits-at : lts.Need-sub-limits-at (Cs t) (limits-at-at t) limits-at.Post Inv μ
+  sub-limits-at c = pos-of-ne-zero (deep (turned c))
+
+  limits-at-requires : lts.Need-limits-at-requires (Cs t) (limits-at-at t) limits-at.Post Inv μ
+  limits-at-requires c κs = (omega (arith, start (turned c) .pre .0, pos-of-ne-zero (deep (turned c))), c .before .loop .inv .0)
+
+  returns-4 : lts.Need-returns-4 (Cs t) (limits-at-at t) limits-at.Post Inv μ
+  returns-4 c =
+      let l = c .before .before in
+      let i = l .before .loop in
+      let a = start (turned l) .args in
+      sym (walk-bad (a .depth - 1) (a .s .now) (i .left) (i .next) (l .loop-test .taken) (sym (c .before .limits-at .ensures) ∙ c .if4 .taken)) ∙ i .inv .1
+
+  sub-left : lts.Need-sub-left (Cs t) (limits-at-at t) limits-at.Post Inv μ
+  sub-left c = search needs
+
+  loop-less : lts.Need-loop-less (Cs t) (limits-at-at t) limits-at.Post Inv μ
+  loop-less c = omega arith
+
+  loop-again : lts.Need-loop-again (Cs t) (limits-at-at t) limits-at.Post Inv μ
+  loop-again c =
+      let l = c .before .before in
+      let i = l .before .loop in
+      let a = start (turned l) .args in
+      let r = c .before .limits-at .ensures in
+      let w = walk-good (a .depth - 1) (a .s .now) (i .left) (i .next) _ (l .loop-test .taken) (sym r) (c .if4 .left) in
+      (rw r (limits-within (a .depth - 1) (a .s .now) (i .next) (i .inv .0)), sym w ∙ i .inv .1)
+
+  returns-5 : lts.Need-returns-5 (Cs t) (limits-at-at t) limits-at.Post Inv μ
+  returns-5 c =
+      let i = c .before .loop in
+      let a = start (fitted (c .before .before .before)) .args in
+      sym (walk-done (a .depth - 1) (a .s .now) (i .left) (i .next) (c .loop-test .left)) ∙ i .inv .1
 
 pub +limits-at-spec : {M : Type 1} → statement M
 +limits-at-spec =

@@ -1,10 +1,12 @@
 use mathlib.Core.Path.{_≡_, sym, _∙_}
-use Prim.Native.Nat.{_+_, _*_, _-_, _≤_}
+use mathlib.Core.Bool.{true}
+use mathlib.Core.List.{List}
+use Prim.Native.Nat.{ℕ, _+_, _*_, _-_, _≤_}
 use native.Mathlib.Omega.{arith}
 use borrow.Author.Needs.{needs}
 use borrow.Author.Tests.{not-true, not-false}
 use lib.ListN.{length, drop}
-use Rattle.model.specs.Expressions.{expression}
+use Rattle.model.specs.Expressions.{headFits, expression}
 use Rattle.expressions.specs.Reading.{endFrom}
 use Rattle.expressions.proofs.Reading.{ends, ends-whole, turn, halt, done, head-pos}
 use Rattle.expressions.proofs.Heads.{head-at, fits-whole}
@@ -23,18 +25,28 @@ loop-holds c = (omega arith, (omega arith, ends-whole (c .before .args .s .now) 
 head-fits-requires : tie.Need-head-fits-requires Inv-loop μ-loop
 head-fits-requires c κs = search needs
 
+-- a turn: the bytes, and where it stands
+abbrev bytes : tie.In-loop Inv-loop μ-loop → List ℕ
+bytes c = c .before .before .before .args .s .now
+
+fitting : (c : tie.Else1 Inv-loop μ-loop) → headFits (drop (c .before .before .before .loop .at) (bytes (c .before .before))) ≡ true
+fitting c = sym (c .before .head-fits .ensures) ∙ not-false _ (c .if1 .left)
+
 -- the head that fits ends within the bytes, and is not empty
-advance : (c : tie.After-operands Inv-loop μ-loop) → c .before .before .before .before .before .before .loop .at + c .before .head-size .result ≤ length (c .before .before .before .before .before .before .before .before .args .s .now)
+advance : (c : tie.After-operands Inv-loop μ-loop) → let e = c .before .before .before in e .before .before .before .loop .at + c .before .head-size .result ≤ length (bytes (e .before .before))
 advance c =
-    let i = c .before .before .before .before .before .before .loop in
-    let e = sym (c .before .before .before .before .head-fits .ensures) ∙ not-false _ (c .before .before .before .if1 .left) in
-    rw (c .before .head-size .ensures .0) (fits-whole (c .before .before .before .before .before .before .before .before .args .s .now) (i .at) _ (c .before .before .byte-at .ensures) e (i .inv .0))
+    let e = c .before .before .before in
+    let i = e .before .before .before .loop in
+    rw (c .before .head-size .ensures .0) (fits-whole (bytes (e .before .before)) (i .at) _ (c .before .before .byte-at .ensures) (fitting e) (i .inv .0))
 
 moves : (c : tie.After-operands Inv-loop μ-loop) → 1 ≤ c .before .head-size .result
 moves c = rw (c .before .head-size .ensures .0) (head-pos (c .before .before .byte-at .result))
 
 returns : tie.Need-returns Inv-loop μ-loop
-returns c = let i = c .before .before .before .loop in sym (halt (c .before .before .before .before .before .args .s .now) (i .pending) (i .at) (c .before .before .loop-test .taken) (sym (c .before .head-fits .ensures) ∙ not-true _ (c .if1 .taken))) ∙ i .inv .1 .1
+returns c =
+    let l = c .before .before in
+    let i = l .before .loop in
+    sym (halt (bytes l) (i .pending) (i .at) (l .loop-test .taken) (sym (c .before .head-fits .ensures) ∙ not-true _ (c .if1 .taken))) ∙ i .inv .1 .1
 
 byte-at-requires : tie.Need-byte-at-requires Inv-loop μ-loop
 byte-at-requires c κs = search needs
@@ -59,15 +71,12 @@ loop-less c = omega (arith, advance c, moves c)
 
 loop-again : tie.Need-loop-again Inv-loop μ-loop
 loop-again c =
-    let i = c .before .before .before .before .before .before .loop in
-    let u = c .before .before .before .before .before .before .before .before .args .s .now in
-    let e = sym (c .before .before .before .before .head-fits .ensures) ∙ not-false _ (c .before .before .before .if1 .left) in (
-      advance c,
-      (
-        omega (arith, moves c),
-        rw (c .operands .ensures .0, c .before .head-size .ensures .0) (sym (turn u (i .pending) (i .at) (c .before .before .byte-at .result) (c .before .before .before .before .before .loop-test .taken) e (head-at (i .at) u ∙ sym (c .before .before .byte-at .ensures))) ∙ i .inv .1 .1),
-      ),
-    )
+    let e = c .before .before .before in
+    let l = e .before .before in
+    let i = l .before .loop in
+    let b = c .before .before .byte-at in
+    let w = turn (bytes l) (i .pending) (i .at) (b .result) (l .loop-test .taken) (fitting e) (head-at (i .at) (bytes l) ∙ sym (b .ensures)) in
+    (advance c, (omega (arith, moves c), rw (c .operands .ensures .0, c .before .head-size .ensures .0) (sym w ∙ i .inv .1 .1)))
 
 returns-2 : tie.Need-returns-2 Inv-loop μ-loop
 returns-2 c = let i = c .before .loop in sym (done (c .before .before .before .args .s .now) (i .pending) (i .at) (c .loop-test .left)) ∙ i .inv .1 .1

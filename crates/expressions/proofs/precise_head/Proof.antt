@@ -17,7 +17,10 @@ in-precision-requires : tie.Need-in-precision-requires
 in-precision-requires c κs = search needs
 
 returns : tie.Need-returns
-returns c = let s = c .before .before .before .before .before in c .in-precision .ensures ∙ rw (c .before .type-at .ensures) (sym (precise-named (s .args .s .now) (s .args .at) _ (c .before .before .before .byte-at .ensures) (c .before .before .if1 .taken)))
+returns c =
+    let b = c .before .before .before in
+    let a = b .before .before .args in
+    c .in-precision .ensures ∙ rw (c .before .type-at .ensures) (sym (precise-named (a .s .now) (a .at) _ (b .byte-at .ensures) (c .before .before .if1 .taken)))
 
 returns-2 : tie.Need-returns-2
 returns-2 c = let s = c .before .before .before in sym (precise-plain (s .args .s .now) (s .args .at) _ (c .before .byte-at .ensures) (c .if1 .left))

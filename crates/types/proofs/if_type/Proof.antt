@@ -1,8 +1,6 @@
 use borrow.Author.Needs.{needs}
-use mathlib.Core.Path.{_∙_}
-use mathlib.Core.Bool.{_&&_}
-use Rattle.model.specs.Values.{isBool, sameType}
-use Rattle.types.proofs.Judging.{judged-is}
+use mathlib.Core.Path.{refl, _∙_}
+use Rattle.types.proofs.Families.{and-same, judged-by}
 use Rattle.types.proofs.if_type.Statement.{statement}
 use Rattle.types.proofs.if_type.Tie as tie
 
@@ -16,7 +14,9 @@ judge-requires : tie.Need-judge-requires
 judge-requires c κs = search needs
 
 returns : tie.Need-returns
-returns c = let a = c .before .before .before .args in c .judge .ensures ∙ rw (c .before .before .is-bool .ensures, c .before .same-type .ensures) (judged-is (isBool (a .b) && sameType (a .t) (a .u)) (a .t) (a .at) (a .next) (c .before .before .before .pre))
+returns c =
+    let s = c .before .before .before in
+    c .judge .ensures ∙ judged-by _ (s .pre) refl (and-same (c .before .before .is-bool .ensures) (c .before .same-type .ensures))
 
 pub if-type-spec : {M : Type 1} → statement M
 if-type-spec = tie.close (tie.spec is-bool-requires same-type-requires judge-requires returns)

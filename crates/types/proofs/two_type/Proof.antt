@@ -1,11 +1,9 @@
 use borrow.Author.Needs.{needs}
 use mathlib.Core.Path.{_∙_}
-use mathlib.Core.Bool.{_&&_}
 use native.Mathlib.Omega.{arith}
-use borrow.Author.Tests.{le-leb, lt-leb}
-use Rattle.model.specs.Values.{isBool, isNumber, sameType, bool}
-use Rattle.model.specs.Expressions.{twoType, countType}
-use Rattle.types.proofs.Judging.{judged-is}
+use Rattle.model.specs.Values.{bool}
+use Rattle.model.specs.Expressions.{countType}
+use Rattle.types.proofs.Families.{and-same, judged-by, number-rule, shift-rule, equal-rule, order-rule, truth-rule}
 use Rattle.types.proofs.two_type.Statement.{statement}
 use Rattle.types.proofs.two_type.Tie as tie
 
@@ -52,24 +50,37 @@ judge-requires-5 : tie.Need-judge-requires-5
 judge-requires-5 c κs = search needs
 
 returns : tie.Need-returns
-unfolding twoType bool countType
-returns c = let a = c .before .before .before .before .args in c .judge .ensures ∙ rw (c .before .before .is-number .ensures, c .before .same-type .ensures, le-leb (a .c) 17 (omega arith)) (judged-is (isNumber (a .t) && sameType (a .t) (a .u)) (a .t) (a .at) (a .next) (c .before .before .before .before .pre))
+returns c =
+    let n = c .before .before in
+    let s = n .before .before in
+    c .judge .ensures ∙ judged-by _ (s .pre) (number-rule (s .args .c) (s .args .t) (s .args .u) (omega arith)) (and-same (n .is-number .ensures) (c .before .same-type .ensures))
 
 returns-2 : tie.Need-returns-2
-unfolding twoType bool countType
-returns-2 c = let a = c .before .before .before .before .before .args in c .judge2 .ensures ∙ rw (c .before .before .is-number2 .ensures, c .before .same-type2 .ensures, lt-leb (a .c) 17 (omega arith), le-leb (a .c) 19 (omega arith)) (judged-is (isNumber (a .t) && sameType (a .u) countType) (a .t) (a .at) (a .next) (c .before .before .before .before .before .pre))
+unfolding countType
+returns-2 c =
+    let n = c .before .before in
+    let s = n .before .before .before in
+    c .judge2 .ensures ∙ judged-by _ (s .pre) (shift-rule (s .args .c) (s .args .t) (s .args .u) (omega arith) (omega arith)) (and-same (n .is-number2 .ensures) (c .before .same-type2 .ensures))
 
 returns-3 : tie.Need-returns-3
-unfolding twoType bool countType
-returns-3 c = let a = c .before .before .before .before .before .args in c .judge3 .ensures ∙ rw (c .before .same-type3 .ensures, lt-leb (a .c) 17 (omega arith), lt-leb (a .c) 19 (omega arith), le-leb (a .c) 21 (omega arith)) (judged-is (sameType (a .t) (a .u)) bool (a .at) (a .next) (c .before .before .before .before .before .pre))
+unfolding bool
+returns-3 c =
+    let s = c .before .before .before .before .before in
+    c .judge3 .ensures ∙ judged-by _ (s .pre) (equal-rule (s .args .c) (s .args .t) (s .args .u) (omega arith) (omega arith)) (c .before .same-type3 .ensures)
 
 returns-4 : tie.Need-returns-4
-unfolding twoType bool countType
-returns-4 c = let a = c .before .before .before .before .before .before .before .args in c .judge4 .ensures ∙ rw (c .before .before .is-number3 .ensures, c .before .same-type4 .ensures, lt-leb (a .c) 17 (omega arith), lt-leb (a .c) 19 (omega arith), lt-leb (a .c) 21 (omega arith), le-leb (a .c) 25 (omega arith)) (judged-is (isNumber (a .t) && sameType (a .t) (a .u)) bool (a .at) (a .next) (c .before .before .before .before .before .before .before .pre))
+unfolding bool
+returns-4 c =
+    let n = c .before .before in
+    let s = n .before .before .before .before .before in
+    c .judge4 .ensures ∙ judged-by _ (s .pre) (order-rule (s .args .c) (s .args .t) (s .args .u) (omega arith) (omega arith)) (and-same (n .is-number3 .ensures) (c .before .same-type4 .ensures))
 
 returns-5 : tie.Need-returns-5
-unfolding twoType bool countType
-returns-5 c = let a = c .before .before .before .before .before .before .before .args in c .judge5 .ensures ∙ rw (c .before .before .is-bool .ensures, c .before .is-bool2 .ensures, lt-leb (a .c) 17 (omega arith), lt-leb (a .c) 19 (omega arith), lt-leb (a .c) 21 (omega arith), lt-leb (a .c) 25 (omega arith)) (judged-is (isBool (a .t) && isBool (a .u)) bool (a .at) (a .next) (c .before .before .before .before .before .before .before .pre))
+unfolding bool
+returns-5 c =
+    let n = c .before .before in
+    let s = n .before .before .before .before .before in
+    c .judge5 .ensures ∙ judged-by _ (s .pre) (truth-rule (s .args .c) (s .args .t) (s .args .u) (omega arith)) (and-same (n .is-bool .ensures) (c .before .is-bool2 .ensures))
 
 pub two-type-spec : {M : Type 1} → statement M
 two-type-spec =

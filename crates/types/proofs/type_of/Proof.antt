@@ -1,4 +1,3 @@
-use borrow.Author.Needs.{needs}
 use native.Mathlib.Omega.{arith}
 use Rattle.model.specs.Expressions.{expression}
 use Rattle.types.proofs.Leaves.{limits-fit}
