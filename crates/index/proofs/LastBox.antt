@@ -17,7 +17,9 @@ use Rattle.model.proofs.Tests.{both}
 use Rattle.model.proofs.Decoded.{Each, GoodType, length-tabulate, getD-tabulate, shape-ins, shape-vars}
 use Rattle.typing.specs.Fits.{Precise}
 use Rattle.table.specs.declared.Counts.{Counts}
-use Rattle.typing.specs.RuleFault.{ruleFault}
+use Rattle.typing.specs.declared.RuleFault.{RuleFault}
+use Rattle.typing.specs.RuleFault.{ruleFault, numberOf}
+use Rattle.typing.proofs.Faults.{number-is}
 use Rattle.table.specs.Table.{region, indexIn, Within}
 use Rattle.model.proofs.Accepted.{Valid}
 use Rattle.table.proofs.Regions.{region-at}
@@ -51,15 +53,15 @@ module _ (s t : List ℕ) (c : Counts) (room : 656 ≤ length t) (w : Within c) 
   unfolding shapeAt wiresOf wiresIn indexIn region
   last-shape = ap (λ (k : ℕ). shapeOf (wiresIn s t (c .wires)) (boxOf (bodyAt s k))) at-last
 
-  last-case : (b : List ℕ) → fieldFault s (indexIn t c) 3 b ≡ ruleFault (shapeAt s (indexIn t c) (length (indexIn t c .boxes) - 1)) (c .inbox) b
-  unfolding indexIn ruleFault
-  last-case b = case-3 s (indexIn t c) 3 b refl own
+  last-case : (b : List ℕ) → fieldFault s (indexIn t c) 3 b ≡ numberOf (ruleFault (shapeAt s (indexIn t c) (length (indexIn t c .boxes) - 1)) (c .inbox) b)
+  unfolding indexIn
+  last-case b = case-3 s (indexIn t c) 3 b refl own ∙ sym (number-is (shapeAt s (indexIn t c) (length (indexIn t c .boxes) - 1)) (c .inbox) b)
 
-  pub rule-is : (sh : Shape) (r : ℕ) (b : List ℕ) → sh ≡ shapeOf (wiresIn s t (c .wires)) (boxOf (bodyAt s o)) → r ≡ ruleFault sh (c .inbox) b → r ≡ fieldFault s (indexIn t c) 3 b
+  pub rule-is : (sh : Shape) (r : RuleFault) (b : List ℕ) → sh ≡ shapeOf (wiresIn s t (c .wires)) (boxOf (bodyAt s o)) → r ≡ ruleFault sh (c .inbox) b → numberOf r ≡ fieldFault s (indexIn t c) 3 b
   rule-is sh r b d f =
       let n = boxes-n t c room w in
       let z : c .boxes - 1 ≡ length (indexIn t c .boxes) - 1 = omega arith in
-      f ∙ ap (λ (y : Shape). ruleFault y (c .inbox) b) (d ∙ last-shape ∙ ap (shapeAt s (indexIn t c)) z) ∙ sym (last-case b)
+      ap numberOf f ∙ ap (λ (y : Shape). numberOf (ruleFault y (c .inbox) b)) (d ∙ last-shape ∙ ap (shapeAt s (indexIn t c)) z) ∙ sym (last-case b)
 
   -- the types of its inputs and variables have precisions of 1 to 30
   pub rule-precise : (ins outs vars : List ℕ) (a : Arity) → shapeIn ins outs vars a ≡ shapeOf (wiresIn s t (c .wires)) (boxOf (bodyAt s o)) → Precise ins (a .ins) × Precise vars (a .vars)

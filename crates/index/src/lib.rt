@@ -1,6 +1,7 @@
 // The fields of a network file: each checked in its turn, and its offset noted in a table.
 use model::Field;
 use table::Counts;
+use typing::RuleFault;
 ghost use mathlib.Core.Path.{_≡_};
 ghost use Prim.Native.Nat.{_≤_};
 ghost use lib.ListN.{length};
@@ -27,7 +28,10 @@ fn rule_in(net: &[u8], tab: &[u16], c: Counts, body: &[u8]) -> u8
     let mut vars = [0u8; 8];
     let o = octets::entry(tab, 63 + c.boxes);
     let a = shapes::shape_of(net, tab, c.wires, o, &mut ins, &mut outs, &mut vars);
-    typing::rule_fault(body, &ins, &outs, &vars, a, c.inbox)
+    match typing::rule_fault(body, &ins, &outs, &vars, a, c.inbox) {
+        RuleFault::Sound => 0,
+        RuleFault::Faulty { number, at: _ } => number,
+    }
 }
 
 // What is wrong with a field after those counted: its order first, then the field by itself.

@@ -3,12 +3,12 @@
 use mathlib.Core.Path.{_≡_, refl, sym, ap, _∙_, subst}
 use mathlib.Core.Bool.{Bool, true, false, cond, _&&_}
 use mathlib.Core.List.{List}
-use Prim.Native.Nat.{ℕ, _+_, _≤_, _<_}
+use Prim.Native.Nat.{ℕ, _+_}
 use native.Mathlib.Nat.{zero-add}
 use native.Mathlib.Omega.{arith}
 use lib.Dec.{leb, ltb, eqb}
 use lib.ListN.{drop, length}
-use borrow.Author.Tests.{le-leb, lt-leb, lt-ltb, le-ltb, eqb-true, eq-eqb, ne-eqb}
+use borrow.Author.Tests.{eqb-true, eq-eqb, ne-eqb}
 use Rattle.model.specs.Expressions.{Read, bad, got, after, readMany, expression}
 use Rattle.model.specs.Rules.{Rule, readPattern, readAction, readRule, ruleRead, isWhole, inputCode, variableCode, outputAction, variableAction}
 use Rattle.model.specs.NetworkFile.{ruleLimits}
@@ -169,21 +169,3 @@ module _ {a : Arity} {b : List ℕ} {p : Parts} (x : Laid a b p) (seen : ℕ) wh
   pub rule-limits : ruleLimits seen b (ruleRead (readRule (a .ins) (a .outs) (a .vars) b)) ≡ (ltb seen 16 && leb (length b) 512 && limitsRead (expression (drop (p .guard) b)) && limitsOf (actionsFrom false (a .outs) (p .outs) b) && limitsOf (actionsFrom true (a .vars) (p .sets) b))
   unfolding ruleLimits ruleRead limitsRead limitsOf ruleIs
   rule-limits = rw (rule-read x, x .guard .read, x .outs .read, x .sets .read)
-
-  pub limits-1 : 16 ≤ seen → false ≡ ruleLimits seen b (ruleRead (readRule (a .ins) (a .outs) (a .vars) b))
-  limits-1 h = sym (rule-limits ∙ rw (le-ltb seen 16 h))
-
-  module _ (h : seen < 16) where
-    pub limits-2 : 512 < length b → false ≡ ruleLimits seen b (ruleRead (readRule (a .ins) (a .outs) (a .vars) b))
-    limits-2 l = sym (rule-limits ∙ rw (lt-ltb seen 16 h, lt-leb (length b) 512 l))
-
-    module _ (l : length b ≤ 512) where
-      pub limits-3 : limitsRead (expression (drop (p .guard) b)) ≡ false → false ≡ ruleLimits seen b (ruleRead (readRule (a .ins) (a .outs) (a .vars) b))
-      limits-3 g = sym (rule-limits ∙ rw (lt-ltb seen 16 h, le-leb (length b) 512 l, g))
-
-      module _ (g : limitsRead (expression (drop (p .guard) b)) ≡ true) where
-        pub limits-4 : limitsOf (actionsFrom false (a .outs) (p .outs) b) ≡ false → false ≡ ruleLimits seen b (ruleRead (readRule (a .ins) (a .outs) (a .vars) b))
-        limits-4 o = sym (rule-limits ∙ rw (lt-ltb seen 16 h, le-leb (length b) 512 l, g, o))
-
-        pub limits-5 : {r : Bool} → limitsOf (actionsFrom false (a .outs) (p .outs) b) ≡ true → r ≡ limitsOf (actionsFrom true (a .vars) (p .sets) b) → r ≡ ruleLimits seen b (ruleRead (readRule (a .ins) (a .outs) (a .vars) b))
-        limits-5 o e = e ∙ sym (rule-limits ∙ rw (lt-ltb seen 16 h, le-leb (length b) 512 l, g, o))

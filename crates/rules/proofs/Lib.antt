@@ -2,3 +2,4 @@
 pub mod Ends
 pub mod Keeping
 pub mod Laying
+pub mod Stops

@@ -1,9 +1,9 @@
 -- A rule's body read part by part: where each part ends, and what all of them come to.
 -- Assumes nothing.
-use Prim.Native.Nat.{ℕ, _+_}
+use Prim.Native.Nat.{ℕ, zero, suc, _+_}
 use mathlib.Core.Bool.{Bool, true, false, cond}
 use mathlib.Core.List.{List}
-use lib.Dec.{eqb}
+use lib.Dec.{leb, ltb, eqb}
 use lib.ListN.{getD, drop, length}
 use Rattle.model.specs.Expressions.{Read, bad, got, readMany, expression}
 use Rattle.model.specs.Rules.{Pattern, Action, inputCode, variableCode, outputAction, variableAction, readPattern, readAction, holdsExpression, actionLimits}
@@ -56,3 +56,23 @@ layoutOf a b =
     (λ m. next (endAt m (actionsFrom false (a .outs) m b))
     (λ n. next (endAt n (actionsFrom true (a .vars) n b))
     (λ q. cond (eqb q (length b)) (layout.Whole (record { vars = k; guard = l; outs = m; sets = n })) layout.Malformed)))))
+
+-- where part k of a body ends, from its offset: input patterns, variable patterns, the guard, output actions, variable actions
+unfoldable pub partEnd : Arity → ℕ → ℕ → List ℕ → Form
+partEnd a k at b =
+    let guard = a .ins + a .vars in
+    cond (ltb k guard) (endAt at (readPattern (patternCodes (leb (a .ins) k)) (drop at b)))
+    (cond (eqb k guard) (endAt at (expression (drop at b)))
+    (endAt at (readAction (actionCodes (ltb (guard + a .outs) k)) (drop at b))))
+
+unfoldable pub stopOr : Form → ℕ → (ℕ → ℕ) → ℕ  -- stop where a part cannot be read, or go on from its end
+stopOr Malformed at f = at
+stopOr (Bytes end) at f = f end
+
+unfoldable pub readFrom : Arity → List ℕ → ℕ → ℕ → ℕ → ℕ  -- how far n parts from part k on can be read
+readFrom a b zero k at = at
+readFrom a b (suc n) k at = stopOr (partEnd a k at b) at (λ end. readFrom a b n (suc k) end)
+
+-- how far a body can be read: the offset of the part that cannot be, or of the first byte after all of them
+unfoldable pub readTo : Arity → List ℕ → ℕ
+readTo a b = readFrom a b (a .ins + a .vars + 1 + a .outs + a .vars) 0 0

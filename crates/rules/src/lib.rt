@@ -1,13 +1,13 @@
-// The body of a rule: where its parts lie, and its limits.
+// The body of a rule: where its parts lie, and the limits of each.
 use expressions::Form;
 use shapes::Arity;
 ghost use mathlib.Core.Path.{_≡_};
+ghost use Prim.Native.Nat.{_≤_};
 ghost use lib.ListN.{drop};
 ghost use Rattle.model.specs.Expressions.{expression};
-ghost use Rattle.model.specs.Rules.{patternSize, readPattern, readAction, holdsExpression, ruleRead, readRule};
-ghost use Rattle.model.specs.NetworkFile.{ruleLimits};
+ghost use Rattle.model.specs.Rules.{patternSize, readPattern, readAction, holdsExpression};
 ghost use Rattle.expressions.specs.Reading.{limitsRead};
-ghost use Rattle.rules.specs.Bodies.{patternCodes, actionCodes, patternsFrom, actionsFrom, endAt, sentLimits, limitsOf, layoutOf};
+ghost use Rattle.rules.specs.Bodies.{patternCodes, actionCodes, patternsFrom, actionsFrom, endAt, sentLimits, layoutOf, partEnd, readTo};
 
 // Where a rule's variable patterns, its guard, its output actions and its variable actions begin.
 pub struct Parts {
@@ -172,8 +172,42 @@ pub fn parts_of(b: &[u8], a: Arity) -> Layout
     }
 }
 
+// Where part k of a body ends, from its offset: input patterns, variable patterns, the guard, output actions, variable actions.
+fn part_end(b: &[u8], at: usize, a: Arity, k: usize) -> Form
+    requires { ⌜ (a .ins ≤ 4) × (a .outs ≤ 4) × (a .vars ≤ 4) ⌝ }
+    ensures { λ r. ⌜ r ≡ partEnd a k at (now (b .entry)) ⌝ }
+{
+    let guard = a.ins + a.vars;
+    if k < guard {
+        return pattern_end(b, at, a.ins <= k);
+    }
+    if k == guard {
+        return expression_end(b, at);
+    }
+    let last = guard + a.outs;
+    action_end(b, at, last < k)
+}
+
+// How far a body can be read: the offset of the part that cannot be, or of the first byte after all of them.
+pub fn read_to(b: &[u8], a: Arity) -> usize
+    requires { ⌜ (a .ins ≤ 4) × (a .outs ≤ 4) × (a .vars ≤ 4) ⌝ }
+    ensures { λ r. ⌜ r ≡ readTo a (now (b .entry)) ⌝ }
+{
+    let n = a.ins + a.vars + 1 + a.outs + a.vars;
+    let mut at = 0;
+    let mut k = 0;
+    while k < n {
+        let Form::Bytes(end) = part_end(b, at, a, k) else {
+            return at;
+        };
+        at = end;
+        k += 1;
+    }
+    at
+}
+
 // The expression at an offset keeps the limits.
-fn expression_limits(b: &[u8], at: usize) -> bool
+pub fn expression_limits(b: &[u8], at: usize) -> bool
     ensures { λ r. ⌜ r ≡ limitsRead (expression (drop at (now (b .entry)))) ⌝ }
 {
     if b.len() <= at {
@@ -183,7 +217,7 @@ fn expression_limits(b: &[u8], at: usize) -> bool
 }
 
 // The expression of the action at an offset, if it holds one, keeps the limits.
-fn action_limits(b: &[u8], at: usize) -> bool
+pub fn action_limits(b: &[u8], at: usize) -> bool
     ensures { λ r. ⌜ r ≡ sentLimits (drop at (now (b .entry))) ⌝ }
 {
     if b.len() <= at {
@@ -194,43 +228,4 @@ fn action_limits(b: &[u8], at: usize) -> bool
         return expression_limits(b, at + 1);
     }
     true
-}
-
-// The expressions of n actions from an offset on keep the limits.
-fn actions_limits(b: &[u8], from: usize, n: usize, var: bool) -> bool
-    ensures { λ r. ⌜ r ≡ limitsOf (actionsFrom var n from (now (b .entry))) ⌝ }
-{
-    let mut at = from;
-    let mut left = n;
-    while 0 < left {
-        let Form::Bytes(end) = action_end(b, at, var) else {
-            return false;
-        };
-        if !action_limits(b, at) {
-            return false;
-        }
-        at = end;
-        left -= 1;
-    }
-    true
-}
-
-// 16 rules a box, 512 bytes a body, and the limits of the guard and of each action; `seen` rules of its box stand before it.
-pub fn limits(b: &[u8], a: Arity, p: Parts, seen: usize) -> bool
-    requires { ⌜ layoutOf a (now b) ≡ Layout.Whole p ⌝ }
-    ensures { λ r. ⌜ r ≡ ruleLimits seen (now (b .entry)) (ruleRead (readRule (a .ins) (a .outs) (a .vars) (now (b .entry)))) ⌝ }
-{
-    if 16 <= seen {
-        return false;
-    }
-    if 512 < b.len() {
-        return false;
-    }
-    if !expression_limits(b, p.guard) {
-        return false;
-    }
-    if !actions_limits(b, p.outs, a.outs, false) {
-        return false;
-    }
-    actions_limits(b, p.sets, a.vars, true)
 }

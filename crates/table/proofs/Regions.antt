@@ -37,7 +37,7 @@ region-above base n t j v h = ap (take n) (drop-set-lt base t j v h)
 
 -- one field more, by its tag
 module _ (t : List ℕ) (c : Counts) (tag at : ℕ) (room : 656 ≤ length t) (w : Within c) where
-  pub note-1 : tag ≡ 1 → c .wires < 64 → Noted t c tag at (set t (c .wires) at) (record { wires = c .wires + 1; boxes = c .boxes; rules = c .rules; inbox = c .inbox; inputs = c .inputs; outputs = c .outputs; last = 1 })
+  pub note-1 : tag ≡ 1 → c .wires < 64 → Noted t c tag at (set t (c .wires) at) (record { wires = c .wires + 1; boxes = c .boxes; rules = c .rules; inbox = c .inbox; inputs = c .inputs; outputs = c .outputs; last = tag })
   unfolding indexIn addField
   note-1 e h =
       let j = c .wires in
@@ -55,7 +55,7 @@ module _ (t : List ℕ) (c : Counts) (tag at : ℕ) (room : 656 ≤ length t) (w
         within = record { wires = omega arith; boxes = omega arith; rules = w .rules; inbox = omega arith; inboxes = w .inboxes; inputs = omega arith; outputs = omega arith; owned = λ z. absurd (omega arith) };
       }
 
-  pub note-2 : tag ≡ 2 → c .boxes < 32 → Noted t c tag at (set (set t (64 + c .boxes) at) (96 + c .boxes) (c .rules)) (record { wires = c .wires; boxes = c .boxes + 1; rules = c .rules; inbox = 0; inputs = c .inputs; outputs = c .outputs; last = 2 })
+  pub note-2 : tag ≡ 2 → c .boxes < 32 → Noted t c tag at (set (set t (64 + c .boxes) at) (96 + c .boxes) (c .rules)) (record { wires = c .wires; boxes = c .boxes + 1; rules = c .rules; inbox = 0; inputs = c .inputs; outputs = c .outputs; last = tag })
   unfolding indexIn addField
   note-2 e h =
       let j = 64 + c .boxes in
@@ -94,7 +94,7 @@ module _ (t : List ℕ) (c : Counts) (tag at : ℕ) (room : 656 ≤ length t) (w
         within = record { wires = omega arith; boxes = omega arith; rules = omega arith; inbox = omega arith; inboxes = omega arith; inputs = omega arith; outputs = omega arith; owned = λ z. g };
       }
 
-  pub note-4 : tag ≡ 4 → c .inputs < 8 → Noted t c tag at (set t (640 + c .inputs) at) (record { wires = c .wires; boxes = c .boxes; rules = c .rules; inbox = c .inbox; inputs = c .inputs + 1; outputs = c .outputs; last = 4 })
+  pub note-4 : tag ≡ 4 → c .inputs < 8 → Noted t c tag at (set t (640 + c .inputs) at) (record { wires = c .wires; boxes = c .boxes; rules = c .rules; inbox = c .inbox; inputs = c .inputs + 1; outputs = c .outputs; last = tag })
   unfolding indexIn addField
   note-4 e h =
       let j = 640 + c .inputs in
@@ -112,7 +112,7 @@ module _ (t : List ℕ) (c : Counts) (tag at : ℕ) (room : 656 ≤ length t) (w
         within = record { wires = omega arith; boxes = omega arith; rules = w .rules; inbox = omega arith; inboxes = w .inboxes; inputs = omega arith; outputs = omega arith; owned = λ z. absurd (omega arith) };
       }
 
-  pub note-5 : tag ≡ 5 → c .outputs < 8 → Noted t c tag at (set t (648 + c .outputs) at) (record { wires = c .wires; boxes = c .boxes; rules = c .rules; inbox = c .inbox; inputs = c .inputs; outputs = c .outputs + 1; last = 5 })
+  pub note-5 : tag ≡ 5 → c .outputs < 8 → Noted t c tag at (set t (648 + c .outputs) at) (record { wires = c .wires; boxes = c .boxes; rules = c .rules; inbox = c .inbox; inputs = c .inputs; outputs = c .outputs + 1; last = tag })
   unfolding indexIn addField
   note-5 e h =
       let j = 648 + c .outputs in

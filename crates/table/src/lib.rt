@@ -22,73 +22,34 @@ pub fn note(table: &mut [u16], c: Counts, tag: u8, at: usize) -> Counts
     ensures { λ r. ⌜ Noted (now (table .entry)) c tag at (now (table .exit)) r ⌝ }
 {
     let v = at as u16;
-    let wires = c.wires;
-    let boxes = c.boxes;
-    let rules = c.rules;
-    let inbox = c.inbox;
-    let inputs = c.inputs;
-    let outputs = c.outputs;
+    let mut n = c;
+    n.last = tag;
     match tag {
         1 => {
-            table[wires] = v;
-            Counts {
-                wires: wires + 1,
-                boxes,
-                rules,
-                inbox,
-                inputs,
-                outputs,
-                last: 1,
-            }
+            let k = c.wires;
+            table[k] = v;
+            n.wires += 1;
         }
         2 => {
-            table[64 + boxes] = v;
-            table[96 + boxes] = rules as u16;
-            Counts {
-                wires,
-                boxes: boxes + 1,
-                rules,
-                inbox: 0,
-                inputs,
-                outputs,
-                last: 2,
-            }
+            table[64 + c.boxes] = v;
+            table[96 + c.boxes] = c.rules as u16;
+            n.boxes += 1;
+            n.inbox = 0;
         }
         3 => {
-            table[128 + rules] = v;
-            Counts {
-                wires,
-                boxes,
-                rules: rules + 1,
-                inbox: inbox + 1,
-                inputs,
-                outputs,
-                last: 2,
-            }
+            table[128 + c.rules] = v;
+            n.rules += 1;
+            n.inbox += 1;
+            n.last = 2;
         }
         4 => {
-            table[640 + inputs] = v;
-            Counts {
-                wires,
-                boxes,
-                rules,
-                inbox,
-                inputs: inputs + 1,
-                outputs,
-                last: 4,
-            }
+            table[640 + c.inputs] = v;
+            n.inputs += 1;
         }
         _ => {
-            table[648 + outputs] = v;
-            Counts {
-                wires,
-                boxes,
-                rules,
-                inbox,
-                inputs,
-                outputs: outputs + 1,
-                last: 5,
-            }
+            table[648 + c.outputs] = v;
+            n.outputs += 1;
         }
     }
+    n
 }

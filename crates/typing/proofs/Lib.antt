@@ -4,3 +4,6 @@ pub mod Patterns
 pub mod Scoping
 pub mod Actions
 pub mod Wholes
+pub mod Keeping
+pub mod Faults
+pub mod Examples

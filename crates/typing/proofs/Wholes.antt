@@ -1,30 +1,24 @@
--- All parts of a rule, and what is wrong with it.
+-- All parts of a rule, and where they begin.
 -- Assumes nothing.
 use mathlib.Core.Path.{_≡_, refl, sym, ap, _∙_}
 use mathlib.Core.Bool.{Bool, true, false}
 use mathlib.Core.List.{List, [], _∷_}
-use Prim.Native.Nat.{ℕ, zero, suc, _+_, _*_}
+use Prim.Native.Nat.{ℕ, zero, suc, _+_}
 use native.Mathlib.Omega.{arith}
-use lib.Dec.{leb, ltb}
-use lib.ListN.{drop, length}
+use lib.ListN.{drop}
 use Rattle.model.specs.declared.Ty.{Ty}
-use Rattle.model.specs.Expressions.{Read, bad, got, after, readMany, expression, sizeOf, Scope, typeAt}
-use Rattle.model.specs.Rules.{Pattern, Action, nothing, bare, send, readPattern, readAction, readRule, ruleRead, isWhole, sizeOfPattern, patternsSize, sizeOfAction, actionsSize, Fit, fits, fails, also, patternsFit, actionFits, actionsFit, scopeOf, ruleFits, isFit}
-use Rattle.model.specs.NetworkFile.{faultOf, ruleIn, ruleForm, ruleLimits, ruleTypes}
-use Rattle.model.proofs.Tests.{and₅}
-use Rattle.expressions.specs.Reading.{limitsRead}
+use Rattle.model.specs.Expressions.{Read, bad, got, after, readMany, expression, sizeOf, Scope}
+use Rattle.model.specs.Rules.{Pattern, Action, nothing, bare, send, readPattern, readAction, readRule, ruleRead, sizeOfPattern, patternsSize, sizeOfAction, actionsSize, Fit, fits, fails, also, patternsFit, actionFits, actionsFit, scopeOf, ruleFits}
 use Rattle.expressions.proofs.Depths.{All}
 use Rattle.expressions.proofs.Parts.{size-is}
 use Rattle.shapes.specs.declared.Arity.{Arity}
 use Rattle.shapes.specs.Shapes.{typesIn, shapeIn}
 use Rattle.rules.specs.declared.Parts.{Parts}
-use Rattle.rules.specs.declared.Layout.the-variants as layout
-use Rattle.rules.specs.Bodies.{patternCodes, actionCodes, patternsFrom, actionsFrom, limitsOf, layoutOf}
-use Rattle.rules.proofs.Laying.{isLaid, form-is, Laid, ruleIs, rule-read, rule-limits}
+use Rattle.rules.specs.Bodies.{patternCodes, actionCodes, patternsFrom, actionsFrom}
+use Rattle.rules.proofs.Laying.{Laid, ruleIs, rule-read}
 use Rattle.typing.specs.declared.Fitting.the-variants.{Fits, Fails}
-use Rattle.typing.specs.Fits.{fittingOf, isRead, listRead, expRead, scopeRead, expressionsFit, Agree, Kept}
-use Rattle.typing.specs.RuleFault.{ruleFault}
-use Rattle.typing.proofs.Patterns.{pattern-size, length-types}
+use Rattle.typing.specs.Fits.{fittingOf, isRead, listRead, expRead, scopeRead, expressionsFit, Agree}
+use Rattle.typing.proofs.Patterns.{pattern-size}
 use Rattle.typing.proofs.Scoping.{type-same}
 use Rattle.typing.proofs.Actions.{action-read}
 
@@ -92,18 +86,27 @@ module _ (s t : Scope) (h : Agree s t) where
 
 -- ── the whole rule ───────────────────────────────────────────────────────────────────────────
 
+-- where the parts of a body begin
+module _ {b : List ℕ} {a : Arity} {p : Parts} (x : Laid a b p) where
+  pub at-vars : patternsSize (x .ins .thing) ≡ p .vars
+  at-vars = patterns-size false (a .ins) 0 b (x .ins .read) ∙ omega (arith, x .ins .ends)
+
+  pub at-guard : p .vars + patternsSize (x .vars .thing) ≡ p .guard
+  at-guard = ap (λ (j : ℕ). p .vars + j) (patterns-size true (a .vars) (p .vars) b (x .vars .read)) ∙ sym (x .vars .ends)
+
+  pub at-outs : p .guard + sizeOf (x .guard .thing) ≡ p .outs
+  at-outs = ap (λ (j : ℕ). p .guard + j) (size-is (drop (p .guard) b) (x .guard .read)) ∙ sym (x .guard .ends)
+
+  pub at-sets : p .outs + actionsSize (x .outs .thing) ≡ p .sets
+  at-sets = ap (λ (j : ℕ). p .outs + j) (actions-size false (a .outs) (p .outs) b (x .outs .read)) ∙ sym (x .outs .ends)
+
 module _ (ins outs vars b : List ℕ) (a : Arity) (p : Parts) (x : Laid a b p) where
   pub rule-fits : ruleFits (shapeIn ins outs vars a) (ruleRead (readRule (a .ins) (a .outs) (a .vars) b))
       ≡ also (patternsFit 0 (typesIn ins (a .ins)) (listRead (patternsFrom false (a .ins) 0 b)))
       (also (patternsFit (p .vars) (typesIn vars (a .vars)) (listRead (patternsFrom true (a .vars) (p .vars) b)))
       (expressionsFit (scopeRead (typesIn ins (a .ins)) (typesIn vars (a .vars)) (patternsFrom false (a .ins) 0 b)) a p outs vars b))
   unfolding ruleFits shapeIn ruleRead ruleIs scopeOf scopeRead expressionsFit listRead expRead
-  rule-fits =
-      let e₁ : patternsSize (x .ins .thing) ≡ p .vars = patterns-size false (a .ins) 0 b (x .ins .read) ∙ omega (arith, x .ins .ends) in
-      let e₂ : p .vars + patternsSize (x .vars .thing) ≡ p .guard = ap (λ (j : ℕ). p .vars + j) (patterns-size true (a .vars) (p .vars) b (x .vars .read)) ∙ sym (x .vars .ends) in
-      let e₃ : p .guard + sizeOf (x .guard .thing) ≡ p .outs = ap (λ (j : ℕ). p .guard + j) (size-is (drop (p .guard) b) (x .guard .read)) ∙ sym (x .guard .ends) in
-      let e₄ : p .outs + actionsSize (x .outs .thing) ≡ p .sets = ap (λ (j : ℕ). p .outs + j) (actions-size false (a .outs) (p .outs) b (x .outs .read)) ∙ sym (x .outs .ends) in
-      rw (rule-read x, e₁, e₂, e₃, e₄, x .ins .read, x .vars .read, x .guard .read, x .outs .read, x .sets .read)
+  rule-fits = rw (rule-read x, at-vars x, at-guard x, at-outs x, at-sets x, x .ins .read, x .vars .read, x .guard .read, x .outs .read, x .sets .read)
 
 pub ins-read : (a : Arity) (b : List ℕ) (p : Parts) → Laid a b p → isRead (patternsFrom false (a .ins) 0 b) ≡ true
 unfolding isRead
@@ -112,46 +115,3 @@ ins-read a b p x = rw (x .ins .read)
 pub vars-read : (a : Arity) (b : List ℕ) (p : Parts) → Laid a b p → isRead (patternsFrom true (a .vars) (p .vars) b) ≡ true
 unfolding isRead
 vars-read a b p x = rw (x .vars .read)
-
-pub kept : (a : Arity) (b : List ℕ) (p : Parts) (seen : ℕ) → Laid a b p → ruleLimits seen b (ruleRead (readRule (a .ins) (a .outs) (a .vars) b)) ≡ true → Kept a p b
-kept a b p seen x e =
-    let w = and₅ (ltb seen 16) (leb (length b) 512) (limitsRead (expression (drop (p .guard) b))) (limitsOf (actionsFrom false (a .outs) (p .outs) b)) (limitsOf (actionsFrom true (a .vars) (p .sets) b)) (sym (rule-limits x seen) ∙ e) in
-    record { guard = w .2; outs = w .3; sets = w .4 }
-
--- ── the fault ────────────────────────────────────────────────────────────────────────────────
-
-module _ (ins outs vars b : List ℕ) (a : Arity) (seen : ℕ) where
-  fault-is : ruleFault (shapeIn ins outs vars a) seen b ≡ (let r = readRule (a .ins) (a .outs) (a .vars) b in faultOf (isWhole r b) (ruleLimits seen b (ruleRead r)) (isFit (ruleFits (shapeIn ins outs vars a) (ruleRead r))))
-  unfolding ruleFault ruleForm ruleTypes ruleIn shapeIn typesIn
-  fault-is = rw (length-types (a .ins) (λ k. typeAt ins (2 * k)), length-types (a .outs) (λ k. typeAt outs (2 * k)), length-types (a .vars) (λ k. typeAt vars (2 * k)))
-
-  pub fault-form : layout.Malformed ≡ layoutOf a b → 1 ≡ ruleFault (shapeIn ins outs vars a) seen b
-  unfolding faultOf isLaid
-  fault-form e = let w : isWhole (readRule (a .ins) (a .outs) (a .vars) b) b ≡ false = sym (form-is b a) ∙ ap isLaid (sym e) in sym (fault-is ∙ rw w)
-
-  module _ (p : Parts) (e : layout.Whole p ≡ layoutOf a b) where
-    whole : isWhole (readRule (a .ins) (a .outs) (a .vars) b) b ≡ true
-    unfolding isLaid
-    whole = sym (form-is b a) ∙ ap isLaid (sym e)
-
-    pub fault-limits : ruleLimits seen b (ruleRead (readRule (a .ins) (a .outs) (a .vars) b)) ≡ false → 2 ≡ ruleFault (shapeIn ins outs vars a) seen b
-    unfolding faultOf
-    fault-limits l = sym (fault-is ∙ rw (whole, l))
-
-    fit-go : (f : Fit) → Fits ≡ fittingOf f → isFit f ≡ true
-    unfolding isFit fittingOf
-    fit-go fits q = refl
-    fit-go (fails k) q = let z : _≡_ {A = ℕ} 0 1 = cc in absurd (omega arith)
-
-    unfit-go : (f : Fit) (j : ℕ) → Fails j ≡ fittingOf f → isFit f ≡ false
-    unfolding isFit fittingOf
-    unfit-go fits j q = let z : _≡_ {A = ℕ} 0 1 = cc in absurd (omega arith)
-    unfit-go (fails k) j q = refl
-
-    pub fault-types : (j : ℕ) → ruleLimits seen b (ruleRead (readRule (a .ins) (a .outs) (a .vars) b)) ≡ true → Fails j ≡ fittingOf (ruleFits (shapeIn ins outs vars a) (ruleRead (readRule (a .ins) (a .outs) (a .vars) b))) → 4 ≡ ruleFault (shapeIn ins outs vars a) seen b
-    unfolding faultOf
-    fault-types j l q = sym (fault-is ∙ rw (whole, l, unfit-go (ruleFits (shapeIn ins outs vars a) (ruleRead (readRule (a .ins) (a .outs) (a .vars) b))) j q))
-
-    pub fault-none : ruleLimits seen b (ruleRead (readRule (a .ins) (a .outs) (a .vars) b)) ≡ true → Fits ≡ fittingOf (ruleFits (shapeIn ins outs vars a) (ruleRead (readRule (a .ins) (a .outs) (a .vars) b))) → 0 ≡ ruleFault (shapeIn ins outs vars a) seen b
-    unfolding faultOf
-    fault-none l q = sym (fault-is ∙ rw (whole, l, fit-go (ruleFits (shapeIn ins outs vars a) (ruleRead (readRule (a .ins) (a .outs) (a .vars) b))) q))

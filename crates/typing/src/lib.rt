@@ -1,4 +1,4 @@
-// The types of a rule's body, and what is wrong with a rule.
+// The limits and the types of a rule's body, and what is wrong with a rule.
 use expressions::Form;
 use model::Ty;
 use rules::Layout;
@@ -18,12 +18,19 @@ ghost use Rattle.types.specs.Scopes.{scopeIn};
 ghost use Rattle.shapes.specs.Shapes.{typesIn, shapeIn};
 ghost use Rattle.rules.specs.Bodies.{patternsFrom, actionsFrom, sentLimits, limitsOf, layoutOf};
 ghost use Rattle.typing.specs.Fits.{fittingOf, isRead, listRead, expRead, actionAt, tagOf, scopeRead, expressionsFit, Precise, Agree, Kept};
+ghost use Rattle.typing.specs.Limits.{actionsKeep, ruleKeeps};
 ghost use Rattle.typing.specs.RuleFault.{ruleFault};
 
 // All fits, or the offset of what does not.
 pub enum Fitting {
     Fits,
     Fails { at: usize },
+}
+
+// Nothing wrong with a rule, or the number of its fault and the offset in its body.
+pub enum RuleFault {
+    Sound,
+    Faulty { number: u8, at: usize },
 }
 
 // Fits, or fails there.
@@ -286,20 +293,74 @@ pub fn types_fit(b: &[u8], ins: &[u8], outs: &[u8], vars: &[u8], a: Arity, p: Pa
     expressions_fit(b, outs, vars, a, p, &types)
 }
 
-// What is wrong with a rule: 1 form, 2 limits, 4 types, 0 where all is well; `seen` rules of its box stand before it.
-pub fn rule_fault(body: &[u8], ins: &[u8], outs: &[u8], vars: &[u8], a: Arity, seen: usize) -> u8
+// The n actions from an offset on keep the limits of their expressions.
+fn actions_keep(b: &[u8], from: usize, n: usize, var: bool) -> Fitting
+    requires { ⌜ isRead (actionsFrom var n from (now b)) ≡ true ⌝ }
+    ensures { λ r. ⌜ r ≡ fittingOf (actionsKeep from (listRead (actionsFrom var n from (now (b .entry))))) ⌝ }
+{
+    let mut at = from;
+    let mut left = n;
+    while 0 < left {
+        let Form::Bytes(end) = rules::action_end(b, at, var) else {
+            return Fitting::Fails { at };
+        };
+        if !rules::action_limits(b, at) {
+            let over = at + 1;
+            return Fitting::Fails { at: over };
+        }
+        at = end;
+        left -= 1;
+    }
+    Fitting::Fits
+}
+
+// 16 rules a box, 512 bytes a body, and the limits of the guard and of each action; `seen` rules of its box stand before it.
+fn limits(b: &[u8], a: Arity, p: Parts, seen: usize) -> Fitting
+    requires { ⌜ layoutOf a (now b) ≡ Layout.Whole p ⌝ }
+    ensures { λ r. ⌜ r ≡ fittingOf (ruleKeeps seen (now (b .entry)) (ruleRead (readRule (a .ins) (a .outs) (a .vars) (now (b .entry))))) ⌝ }
+{
+    if 16 <= seen {
+        return Fitting::Fails { at: 0 };
+    }
+    if 512 < b.len() {
+        return Fitting::Fails { at: 0 };
+    }
+    if !rules::expression_limits(b, p.guard) {
+        return Fitting::Fails { at: p.guard };
+    }
+    let sent = actions_keep(b, p.outs, a.outs, false);
+    let Fitting::Fits = sent else {
+        return sent;
+    };
+    actions_keep(b, p.sets, a.vars, true)
+}
+
+// What is wrong with a rule, from the left: 1 form, 2 limits, 4 types; `seen` rules of its box stand before it.
+pub fn rule_fault(
+    body: &[u8],
+    ins: &[u8],
+    outs: &[u8],
+    vars: &[u8],
+    a: Arity,
+    seen: usize,
+) -> RuleFault
     requires { ⌜ (a .ins ≤ 4) × (a .outs ≤ 4) × (a .vars ≤ 4) ⌝ }
     requires { ⌜ Precise (now ins) (a .ins) × Precise (now vars) (a .vars) ⌝ }
     ensures { λ r. ⌜ r ≡ ruleFault (shapeIn (now (ins .entry)) (now (outs .entry)) (now (vars .entry)) a) seen (now (body .entry)) ⌝ }
 {
     let Layout::Whole { parts: p } = rules::parts_of(body, a) else {
-        return 1;
+        return RuleFault::Faulty {
+            number: 1,
+            at: rules::read_to(body, a),
+        };
     };
-    if !rules::limits(body, a, p, seen) {
-        return 2;
+    let kept = limits(body, a, p, seen);
+    if let Fitting::Fails { at } = kept {
+        return RuleFault::Faulty { number: 2, at };
     }
-    let Fitting::Fits = types_fit(body, ins, outs, vars, a, p) else {
-        return 4;
-    };
-    0
+    let fitting = types_fit(body, ins, outs, vars, a, p);
+    if let Fitting::Fails { at } = fitting {
+        return RuleFault::Faulty { number: 4, at };
+    }
+    RuleFault::Sound
 }

@@ -1,3 +1,5 @@
+use mathlib.Core.Path.{sym, ap, _∙_}
+use Rattle.typing.specs.RuleFault.{numberOf}
 use Rattle.shapes.proofs.Laws.{ins-few, outs-few, vars-few}
 use Rattle.index.proofs.LastBox.{last-fits, rule-is, rule-precise}
 use native.Mathlib.Omega.{arith}
@@ -40,8 +42,29 @@ rule-fault-requires c κs =
     let f = last-fits _ _ _ (p .1 .0 .0) (p .0) (p .1 .1) (p .1 .0 .1) (e .entry .result) (e .entry .ensures .0) in
     ((ins-few _ _ _ _ _ _ sh (f .body), outs-few _ _ _ _ _ _ sh (f .body), vars-few _ _ _ _ _ _ sh (f .body)), rule-precise _ _ _ (p .1 .0 .0) (p .0) (p .1 .1) (p .1 .0 .1) (e .entry .result) (e .entry .ensures .0) _ _ _ _ sh)
 
+enum-told : tie.Need-enum-told
+enum-told c = search needs
+
+enum-known-number : tie.Need-enum-known-number
+enum-known-number c = search needs
+
 returns : tie.Need-returns
-returns c = let p = c .before .before .before .before .before .before .before .before .before .before .before .before .before .before .before .before .pre in rule-is _ _ _ (p .1 .0 .0) (p .0) (p .1 .1) (p .1 .0 .1) (c .before .before .before .before .before .before .before .before .before .before .before .entry .result) (c .before .before .before .before .before .before .before .before .before .before .before .entry .ensures .0) _ _ _ (c .before .before .before .before .before .before .before .shape-of .ensures) (c .rule-fault .ensures)
+unfolding numberOf
+returns c =
+    let k = c .before .before in
+    let e = k .before .before .before .before .before .before .before .before .before .before .before in
+    let p = e .before .before .before .before .before .pre in
+    ap numberOf (sym (c .enum-told .given .1))
+    ∙ rule-is _ _ _ (p .1 .0 .0) (p .0) (p .1 .1) (p .1 .0 .1) (e .entry .result) (e .entry .ensures .0) _ _ _ (k .before .before .before .before .before .before .before .shape-of .ensures) (k .rule-fault .ensures)
+
+returns-2 : tie.Need-returns-2
+unfolding numberOf
+returns-2 c =
+    let k = c .before .before .before in
+    let e = k .before .before .before .before .before .before .before .before .before .before .before in
+    let p = e .before .before .before .before .before .pre in
+    ap numberOf (sym (c .before .number .given .1))
+    ∙ rule-is _ _ _ (p .1 .0 .0) (p .0) (p .1 .1) (p .1 .0 .1) (e .entry .result) (e .entry .ensures .0) _ _ _ (k .before .before .before .before .before .before .before .shape-of .ensures) (k .rule-fault .ensures)
 
 pub rule-in-spec : {M : Type 1} → statement M
 rule-in-spec =
@@ -57,4 +80,7 @@ rule-in-spec =
     slice-aggregate-rule-fault-2
     slice-aggregate-rule-fault-3
     rule-fault-requires
-    returns)
+    enum-told
+    enum-known-number
+    returns
+    returns-2)

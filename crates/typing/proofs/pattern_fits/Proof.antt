@@ -5,7 +5,6 @@ use borrow.Author.Needs.{needs}
 use borrow.Author.Tests.{not-true, not-false}
 use Rattle.model.specs.declared.Ty.{Ty}
 use Rattle.model.specs.Bytes.{valueAt}
-use Rattle.model.specs.Values.{carried, within}
 use Rattle.model.specs.Rules.{patternOf, patternFits, tagFits}
 use Rattle.octets.proofs.Laws.{back}
 use Rattle.typing.proofs.Patterns.{fits-zero, fits-tag, fits-constant, fits-any, carried-p}
