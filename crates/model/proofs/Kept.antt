@@ -37,12 +37,12 @@ use Rattle.model.proofs.Whole.{tokens-accepted}
 
 -- ── tokens of a type ─────────────────────────────────────────────────────────────────────────
 
-fit-append : (t : Ty) (xs ys : List Token) → tokensFit t xs ≡ true → tokensFit t ys ≡ true → tokensFit t (xs ++ ys) ≡ true
+pub fit-append : (t : Ty) (xs ys : List Token) → tokensFit t xs ≡ true → tokensFit t ys ≡ true → tokensFit t (xs ++ ys) ≡ true
 unfolding tokensFit
 fit-append t [] ys p q = q
 fit-append t (x ∷ xs) ys p q = let h = and₂ (tokenFits t x) (tokensFit t xs) p in both (tokenFits t x) (tokensFit t (xs ++ ys)) (h .0) (fit-append t xs ys (h .1) q)
 
-fit-drop : (t : Ty) (k : ℕ) (xs : List Token) → tokensFit t xs ≡ true → tokensFit t (drop k xs) ≡ true
+pub fit-drop : (t : Ty) (k : ℕ) (xs : List Token) → tokensFit t xs ≡ true → tokensFit t (drop k xs) ≡ true
 unfolding tokensFit
 fit-drop t zero xs p = p
 fit-drop t (suc k) [] p = p

@@ -22,14 +22,14 @@ use Rattle.model.specs.States.{tokenFits, tokensFit, ownBytes}
 use Rattle.model.proofs.Tests.{both}
 use Rattle.model.proofs.Lookup.{input-proc}
 use Rattle.model.proofs.Decoded.{GoodWire, GoodProc, GoodNet, noVariable}
-use Rattle.model.proofs.Kept.{GoodVars, GoodOwn, GoodState, fit-append, fit-drop}
+use Rattle.model.proofs.Kept.{GoodVars, GoodOwn, GoodState, fit-append, fit-drop, within-small}
 use Rattle.table.specs.declared.Counts.{Counts}
 use Rattle.table.specs.Table.{indexIn}
 use Rattle.octets.proofs.Laws.{length-two, back}
 use Rattle.queues.specs.Segments.{putMid}
 use Rattle.queues.specs.Queues.{WireHeld, WireRoom, GotRoom, popBytes, pushBytes, gotBytes}
 use Rattle.queues.proofs.Queues.{pop-wire, pop-held, push-wire, push-room, length-snoc, length-values, box-put, taken-count, taken-put, push-output, got-room}
-use Rattle.queues.proofs.Reading.{fits-sane, within-small}
+use Rattle.queues.proofs.Reading.{fits-sane}
 use Rattle.lookup.proofs.Tabled.{n-boxes, n-inputs}
 use Rattle.places.specs.Standing.{tokensOf, netIn, Standing, stateOf}
 use Rattle.places.proofs.Standing.{net-all, state-good, file-few}
@@ -81,7 +81,7 @@ module _ (n : Net) where
       → OwnStep n x (VarRoom j z) (λ l. putMid (4 * j) 4 l (valueBytes z)) o (vars (set (varsOf o) j z))
   unfolding ownBytes variableType varsOf
   keep-step (box b) o j z gp g l f = record {
-    asks = (omega (arith, l, length-values (varsOf o)), within-small ((getD (b .vars) j noVariable) .ty) z (gp .vars j (omega (arith, l, g .number)) .ty .high) f);
+    asks = (omega (arith, l, length-values (varsOf o)), within-small ((getD (b .vars) j noVariable) .ty) (gp .vars j (omega (arith, l, g .number)) .ty .low) (gp .vars j (omega (arith, l, g .number)) .ty .high) z f);
     does = box-put b (varsOf o) j z l;
     good = good-var b o j z g f;
   }
