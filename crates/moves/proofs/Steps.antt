@@ -55,7 +55,7 @@ GotRoomFor t s = GotRoom s × (mag (t .value) < 2147483648)
 
 put-step : (w : Wire) (q : List Token) (t : Token) → GoodWire w → length q < w .capacity → tokensFit (w .ty) q ≡ true → tokenFits (w .ty) t ≡ true → WireStep w (RoomFor t) (λ s. pushBytes s t) q (q ++ (t ∷ []))
 put-step w q t g h e f = record {
-  asks = (push-room w q h (g .most), fits-sane (w .ty) t (g .ty .high) f .value);
+  asks = (push-room w q h (g .most), fits-sane (w .ty) (g .ty) t f .value);
   does = push-wire w q t h;
   most = omega (arith, length-snoc q t);
   fit = fit-snoc (w .ty) q t e f;
@@ -109,7 +109,7 @@ module _ (n : Net) where
   receive-step (output w room) o t gn gp g l f =
       let q = gotOf o in
       record {
-        asks = (got-room w room q l (gp .2), fits-sane ((wire n w) .ty) t (gn .wires w (gp .0) .ty .high) f .value);
+        asks = (got-room w room q l (gp .2), fits-sane ((wire n w) .ty) (gn .wires w (gp .0) .ty) t f .value);
         does = push-output w room q t l;
         good = record { is = refl; most = omega (arith, length-snoc q t, l); fit = fit-snoc ((wire n w) .ty) q t (g .fit) f };
       }
