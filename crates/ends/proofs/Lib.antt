@@ -1,0 +1,2 @@
+-- Laws that several functions cite.
+pub mod Ends
