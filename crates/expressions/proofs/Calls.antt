@@ -11,7 +11,7 @@ use Rattle.model.specs.Expressions.{Exp, got, headSize, operands, headFits, exp
 use Rattle.model.proofs.Tests.{and-left, and-right}
 use Rattle.expressions.specs.Reading.{preciseHead, shallow, fitsAt}
 use Rattle.expressions.proofs.Heads.{head-at, fits-whole}
-use Rattle.expressions.proofs.Depths.{allShallow, All, bounded}
+use Rattle.expressions.proofs.Depths.{allShallow, all-got, bounded}
 use Rattle.expressions.proofs.Shapes.{at-most-three}
 use Rattle.expressions.proofs.Parts.{Run, none, more, Parts, parts}
 
@@ -103,11 +103,7 @@ pub record Next (x : Call) (done : List Exp) (k at : ℕ) : Type 0 where
   pub onward : Reached x (done ++ (e ∷ [])) (k - 1) (at + n)
 
 taken-within : (s : List ℕ) (at : ℕ) {e : Exp} {n : ℕ} → at ≤ length s → expression (drop at s) ≡ got e n → at + n ≤ length s
-unfolding All
-taken-within s at {e} {n} l x =
-    let w : All (λ e n. (1 ≤ n) × (n ≤ length (drop at s))) (expression (drop at s)) = bounded (drop at s) in
-    let v : (1 ≤ n) × (n ≤ length (drop at s)) = rw x at w in
-    omega (arith, length-drop at s)
+taken-within s at l x = omega (arith, all-got (λ e n. (1 ≤ n) × (n ≤ length (drop at s))) (bounded (drop at s)) x, length-drop at s)
 
 run-end : {s : List ℕ} {k at end : ℕ} {es : List Exp} → Run s k at es end → k ≡ 0 → (es ≡ []) × (end ≡ at)
 run-end none e = (refl, refl)

@@ -119,36 +119,40 @@ unfoldable pub All : {A : Type 0} → (A → ℕ → Type 0) → Read A → Type
 All P bad = Unit {0}
 All P (got a n) = P a n
 
-module _ (f : List ℕ → Read Exp) where
-  sized-got : (k n : ℕ) (a : Exp) (r : Read (List Exp)) → All (λ es m. length es ≡ k) r → All (λ es m. length es ≡ suc k) (joined a n r)
-  unfolding All after
-  sized-got k n a bad h = tt
-  sized-got k n a (got es m) h = omega arith
+pub all-map : {A : Type 0} {P Q : A → ℕ → Type 0} (r : Read A) → ((a : A) (n : ℕ) → P a n → Q a n) → All P r → All Q r
+unfolding All
+all-map bad f h = tt
+all-map (got a n) f h = f a n h
 
-  sized-go : (k : ℕ) (s : List ℕ) (r : Read Exp) → ((u : List ℕ) → All (λ es m. length es ≡ k) (readMany f k u)) → All (λ es m. length es ≡ suc k) (others f k s r)
-  unfolding All after
-  sized-go k s bad h = tt
-  sized-go k s (got a n) h = sized-got k n a (readMany f k (drop n s)) (h (drop n s))
+pub all-got : {A : Type 0} (P : A → ℕ → Type 0) {r : Read A} {a : A} {n : ℕ} → All P r → r ≡ got a n → P a n
+unfolding All
+all-got P h e = rw e at h
 
-  pub sized : (k : ℕ) (s : List ℕ) → All (λ es m. length es ≡ k) (readMany f k s)
+-- what holds of many, by one more in front
+module _ {A : Type 0} (f : List ℕ → Read A) (P : ℕ → List ℕ → List A → ℕ → Type 0)
+    (base : (s : List ℕ) → P 0 s [] 0)
+    (step : (k : ℕ) (s : List ℕ) (a : A) (n : ℕ) (xs : List A) (m : ℕ) → f s ≡ got a n → P k (drop n s) xs m → P (suc k) s (a ∷ xs) (n + m)) where
+  many-joined : (k : ℕ) (s : List ℕ) (a : A) (n : ℕ) (r : Read (List A)) → f s ≡ got a n → All (P k (drop n s)) r → All (P (suc k) s) (joined a n r)
+  unfolding All after
+  many-joined k s a n bad e h = tt
+  many-joined k s a n (got xs m) e h = step k s a n xs m e h
+
+  many-others : (k : ℕ) (s : List ℕ) (r : Read A) → f s ≡ r → ((u : List ℕ) → All (P k u) (readMany f k u)) → All (P (suc k) s) (others f k s r)
+  unfolding All after
+  many-others k s bad e h = tt
+  many-others k s (got a n) e h = many-joined k s a n (readMany f k (drop n s)) e (h (drop n s))
+
+  pub all-many : (k : ℕ) (s : List ℕ) → All (P k s) (readMany f k s)
   unfolding All readMany
-  sized zero s = refl
-  sized (suc k) s = sized-go k s (f s) (sized k)
+  all-many zero s = base s
+  all-many (suc k) s = many-others k s (f s) refl (all-many k)
 
-  within-got : (l n : ℕ) (a : Exp) (r : Read (List Exp)) → n ≤ l → All (λ es m. m ≤ l - n) r → All (λ es m. m ≤ l) (joined a n r)
-  unfolding All after
-  within-got l n a bad g h = tt
-  within-got l n a (got es m) g h = omega arith
-
-  within-go : (k : ℕ) (s : List ℕ) (r : Read Exp) → All (λ e n. n ≤ length s) r → ((u : List ℕ) → All (λ es m. m ≤ length u) (readMany f k u)) → All (λ es m. m ≤ length s) (others f k s r)
-  unfolding All after
-  within-go k s bad g h = tt
-  within-go k s (got a n) g h = within-got (length s) n a (readMany f k (drop n s)) g (rw (length-drop n s) at (h (drop n s)))
+module _ (f : List ℕ → Read Exp) where
+  pub sized : (k : ℕ) (s : List ℕ) → All (λ es m. length es ≡ k) (readMany f k s)
+  sized = all-many f (λ k s es m. length es ≡ k) (λ s. refl) (λ k s a n es m e h. ap suc h)
 
   within-many : ((u : List ℕ) → All (λ e n. n ≤ length u) (f u)) → (k : ℕ) (s : List ℕ) → All (λ es m. m ≤ length s) (readMany f k s)
-  unfolding All readMany
-  within-many h zero s = omega arith
-  within-many h (suc k) s = within-go k s (f s) (h s) (within-many h k)
+  within-many g = all-many f (λ k s es m. m ≤ length s) (λ s. omega arith) (λ k s a n es m e h. omega (arith, length-drop n s, all-got (λ e n. n ≤ length s) (g s) e))
 
 -- what is read takes a byte at least, and no more than there are
 abbrev pub Bounded : List ℕ → Read Exp → Type 0
@@ -164,18 +168,13 @@ unfolding All provided
 bounded-if true s r e h = h refl
 bounded-if false s r e h = tt
 
-second-all : (r : Read Exp) (l : ℕ) → All (λ e n. (1 ≤ n) × (n ≤ l)) r → All (λ e n. n ≤ l) r
-unfolding All
-second-all bad l h = tt
-second-all (got e n) l h = h .1
-
 bounded-at : (d : ℕ) (s : List ℕ) → Bounded s (readExp d s)
 unfolding All readExp
 bounded-at zero s = tt
 bounded-at (suc d) s =
     let c = getD s 0 0 in
     let v = drop (headSize c) s in
-    let w = within-many (λ u. readExp d u) (λ u. second-all (readExp d u) (length u) (bounded-at d u)) (operands c) v in
+    let w = within-many (λ u. readExp d u) (λ u. all-map (readExp d u) (λ e n w. w .1) (bounded-at d u)) (operands c) v in
     bounded-if (headFits s) s (behind (λ u. readExp d u) s) refl
     (λ e. bounded-got s (headSize c) (build s) (readMany (λ u. readExp d u) (operands c) v) (head-pos c) (omega (arith, fits-whole s 0 c refl e (omega arith))) (rw (length-drop (headSize c) s) at w))
 

@@ -1,6 +1,6 @@
 -- An expression that keeps the limits, taken apart: its head, and its operands at their offsets. And the size of one that was read.
 -- Assumes nothing.
-use mathlib.Core.Path.{_≡_, refl, sym, _∙_, subst}
+use mathlib.Core.Path.{_≡_, refl, sym, ap, _∙_, subst}
 use mathlib.Core.Bool.{Bool, true, false, _&&_}
 use mathlib.Core.List.{List, [], _∷_, _++_}
 use Prim.Native.Nat.{ℕ, zero, suc, _+_, _-_, _≤_}
@@ -12,8 +12,8 @@ use borrow.Author.Tests.{le-leb, lt-leb, eqb-true, eqb-false, ne-eqb}
 use Rattle.model.specs.Expressions.{Exp, Read, bad, got, after, readMany, headSize, operands, headFits, provided, build, readExp, expression, depthOf, sizeOf}
 use Rattle.model.proofs.Tests.{and-left, and-right}
 use Rattle.expressions.specs.Reading.{preciseHead, shallow, fitsAt}
-use Rattle.expressions.proofs.Reading.{joined, others, headed, no-exp, some-exp}
-use Rattle.expressions.proofs.Depths.{allShallow, built, All, sized, depth-pos, two-left, four-up}
+use Rattle.expressions.proofs.Reading.{headed, no-exp, some-exp}
+use Rattle.expressions.proofs.Depths.{allShallow, built, All, all-map, all-got, all-many, sized, depth-pos, two-left, four-up}
 use Rattle.expressions.proofs.Shapes.{no-operand, one-operand, two-operands, three-operands, at-most-three, build-literal, build-matched, build-variable, build-cast, build-one, build-two, build-if}
 
 -- ── operands one after another ───────────────────────────────────────────────────────────────
@@ -23,26 +23,19 @@ pub data Run (s : List ℕ) : ℕ → ℕ → List Exp → ℕ → Type 0 where
   none : {at : ℕ} → Run s 0 at [] at
   more : {k at n end : ℕ} {e : Exp} {es : List Exp} → expression (drop at s) ≡ got e n → Run s k (at + n) es end → Run s (suc k) at (e ∷ es) end
 
-module _ (s : List ℕ) where
-  abbrev Runs : ℕ → ℕ → Read (List Exp) → Type 0
-  Runs k at r = All (λ es n. Run s k at es (at + n)) r
+runs : (s : List ℕ) (k at : ℕ) → All (λ es n. Run s k at es (at + n)) (readMany expression k (drop at s))
+runs s k at = all-map (readMany expression k (drop at s)) (λ es n h. h at refl) (all-many expression Runs base step k (drop at s))
+  where
+    Runs : ℕ → List ℕ → List Exp → ℕ → Type 0
+    Runs k u es n = (at : ℕ) → u ≡ drop at s → Run s k at es (at + n)
 
-  run-got : (k at n : ℕ) (e : Exp) (r : Read (List Exp)) → expression (drop at s) ≡ got e n → Runs k (at + n) r → Runs (suc k) at (joined e n r)
-  unfolding All after
-  run-got k at n e bad x h = tt
-  run-got k at n e (got es m) x h =
-      let q : at + n + m ≡ at + (n + m) = omega arith in
-      more x (rw q at h)
+    base : (u : List ℕ) → Runs 0 u [] 0
+    base u at e = let q : at ≡ at + 0 = omega arith in subst (λ (x : ℕ). Run s 0 at [] x) q none
 
-  run-go : (k at : ℕ) (r : Read Exp) → expression (drop at s) ≡ r → ((to : ℕ) → Runs k to (readMany expression k (drop to s))) → Runs (suc k) at (others expression k (drop at s) r)
-  unfolding All after
-  run-go k at bad x h = tt
-  run-go k at (got e n) x h = rw (drop-drop n at s) (run-got k at n e (readMany expression k (drop (at + n) s)) x (h (at + n)))
-
-  runs : (k at : ℕ) → Runs k at (readMany expression k (drop at s))
-  unfolding All readMany
-  runs zero at = let q : at ≡ at + 0 = omega arith in subst (λ (x : ℕ). Run s 0 at [] x) q none
-  runs (suc k) at = run-go k at (expression (drop at s)) refl (runs k)
+    step : (k : ℕ) (u : List ℕ) (a : Exp) (n : ℕ) (es : List Exp) (m : ℕ) → expression u ≡ got a n → Runs k (drop n u) es m → Runs (suc k) u (a ∷ es) (n + m)
+    step k u a n es m x h at e =
+        let q : at + n + m ≡ at + (n + m) = omega arith in
+        more (rw e at x) (rw q at (h (at + n) (ap (drop n) e ∙ drop-drop n at s)))
 
 -- ── the expression at an offset ──────────────────────────────────────────────────────────────
 
@@ -125,21 +118,9 @@ module _ (s : List ℕ) (c : ℕ) (h : getD s 0 0 ≡ c) where
   size-built (x ∷ y ∷ z ∷ []) e = size-if x y z (three-operands c (sym e))
   size-built (x ∷ y ∷ z ∷ w ∷ es) e = absurd (omega (arith, at-most-three c))
 
-module _ (f : List ℕ → Read Exp) (good : (u : List ℕ) → All (λ e n. sizeOf e ≡ n) (f u)) where
-  sum-got : (n : ℕ) (a : Exp) (r : Read (List Exp)) → sizeOf a ≡ n → All (λ es m. sizes es ≡ m) r → All (λ es m. sizes es ≡ m) (joined a n r)
-  unfolding All after sizes
-  sum-got n a bad e h = tt
-  sum-got n a (got es m) e h = rw (e, h)
-
-  sum-go : (k : ℕ) (s : List ℕ) (r : Read Exp) → All (λ e n. sizeOf e ≡ n) r → ((u : List ℕ) → All (λ es m. sizes es ≡ m) (readMany f k u)) → All (λ es m. sizes es ≡ m) (others f k s r)
-  unfolding All after
-  sum-go k s bad e h = tt
-  sum-go k s (got a n) e h = sum-got n a (readMany f k (drop n s)) e (h (drop n s))
-
-  sum-many : (k : ℕ) (s : List ℕ) → All (λ es m. sizes es ≡ m) (readMany f k s)
-  unfolding All readMany sizes
-  sum-many zero s = refl
-  sum-many (suc k) s = sum-go k s (f s) (good s) (sum-many k)
+sum-many : (f : List ℕ → Read Exp) → ((u : List ℕ) → All (λ e n. sizeOf e ≡ n) (f u)) → (k : ℕ) (s : List ℕ) → All (λ es m. sizes es ≡ m) (readMany f k s)
+unfolding sizes
+sum-many f g = all-many f (λ k s es m. sizes es ≡ m) (λ s. refl) (λ k s a n es m e h. omega (arith, h, all-got (λ e n. sizeOf e ≡ n) (g s) e))
 
 size-got :
     (s : List ℕ) (c : ℕ) (b : Bool) (r : Read (List Exp)) → getD s 0 0 ≡ c → All (λ es n. length es ≡ operands c) r → All (λ es n. sizes es ≡ n) r →
@@ -159,5 +140,5 @@ size-at (suc d) s =
 
 -- the bytes that an expression takes are its size
 pub size-is : (s : List ℕ) {e : Exp} {n : ℕ} → expression s ≡ got e n → sizeOf e ≡ n
-unfolding All expression
-size-is s x = let w : All (λ e n. sizeOf e ≡ n) (readExp (length s) s) = size-at (length s) s in rw x at w
+unfolding expression
+size-is s x = all-got (λ e n. sizeOf e ≡ n) (size-at (length s) s) x

@@ -33,10 +33,10 @@ no-head s e = rw (le-ltb 0 (length s) (omega arith))
 -- ── many, one after another ──────────────────────────────────────────────────────────────────
 
 -- one thing before the others; and the others read behind it
-abbrev pub joined : Exp → ℕ → Read (List Exp) → Read (List Exp)
+abbrev pub joined : {A : Type 0} → A → ℕ → Read (List A) → Read (List A)
 joined a n r = after r (λ rest m. got (a ∷ rest) (n + m))
 
-abbrev pub others : (List ℕ → Read Exp) → ℕ → List ℕ → Read Exp → Read (List Exp)
+abbrev pub others : {A : Type 0} → (List ℕ → Read A) → ℕ → List ℕ → Read A → Read (List A)
 others f k s r = after r (λ a n. joined a n (readMany f k (drop n s)))
 
 -- what is made of them behind a head of h bytes
