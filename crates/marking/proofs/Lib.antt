@@ -2,3 +2,5 @@
 pub mod Boxes
 pub mod Trials
 pub mod Boxmarks
+pub mod Noting
+pub mod Processes

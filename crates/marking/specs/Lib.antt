@@ -1,1 +1,2 @@
 -- What the contracts of marking cite beside the model.
+pub mod Noted

@@ -1,14 +1,26 @@
 // Which processes are marked, and by which rule: from the state at the cycle's start alone.
+use model::MarkAnswer;
 use model::ProcessId;
+use model::Refusal;
 use model::RuleId;
 use table::Counts;
 use trying::Tried;
 ghost use mathlib.Core.Path.{_≡_};
-ghost use Prim.Native.Nat.{_+_, _<_};
-ghost use Rattle.model.specs.Cycles.{mark, flag};
+ghost use mathlib.Core.List.{List};
+ghost use Prim.Native.Nat.{_+_, _^_, _≤_, _<_};
+ghost use lib.ListN.{length, replicate};
+ghost use Rattle.model.specs.Cycles.{mark, flag, finding};
+ghost use Rattle.model.specs.Calls.{marksOf};
 ghost use Rattle.places.specs.Standing.{netIn, Standing, stateOf};
 ghost use Rattle.token_file.specs.Fields.{Fields};
 ghost use Rattle.trying.specs.Views.{markAs};
+ghost use Rattle.marking.specs.Noted.{stepAs, withRule, rulesAs, markingOf};
+
+// The set so far, or the number of a fault.
+pub enum Step {
+    Go { set: u64 },
+    Fault { number: u8 },
+}
 
 // The mark of a box: its shape, what it sees, and its rules tried against that.
 pub fn mark_box(
@@ -71,4 +83,94 @@ pub fn mark_of(
         return end_mark(ends::input_marked(net, table, c, starts, tokens, fields, k, state));
     }
     end_mark(ends::output_marked(net, table, c, starts, tokens, k, state))
+}
+
+// A mark noted: the process's bit in the set, and a box's rule number.
+fn noted(k: ProcessId, r: RuleId, boxes: usize, set: u64, rules: &mut [u8]) -> u64
+    requires { ⌜ (k .0 < 64) × (set < 2 ^ k .0) ⌝ }
+    requires { ⌜ (boxes ≤ 32) × (length (now rules) ≡ 32) ⌝ }
+    ensures { λ q. ⌜ (q ≡ set + 2 ^ k .0) × (now (rules .exit) ≡ withRule (k .0) boxes (r .0) (now (rules .entry))) ⌝ }
+{
+    let j = octets::wide(k.0);
+    if boxes <= j {
+        return marks::with_mark(set, k);
+    }
+    rules[j] = r.0;
+    marks::with_mark(set, k)
+}
+
+// The mark of process k, which is above all those in the set.
+fn mark_next(
+    net: &[u8],
+    table: &[u16],
+    c: Counts,
+    starts: &[u16],
+    tokens: &[u8],
+    fields: &[u16],
+    k: ProcessId,
+    state: &[u8],
+    set: u64,
+    rules: &mut [u8],
+) -> Step
+    requires { ⌜ Standing (now net) (now table) (now starts) (now tokens) (now state) c ⌝ }
+    requires { ⌜ Fields (now net) (now table) (now tokens) (now fields) c ⌝ }
+    requires { ⌜ k .0 < c .boxes + c .inputs + c .outputs ⌝ }
+    requires { ⌜ (set < 2 ^ k .0) × (length (now rules) ≡ 32) ⌝ }
+    ensures { λ r. ⌜ (r ≡ stepAs (mark (netIn (now (net .entry)) (now (table .entry)) c (now (tokens .entry))) (stateOf (now (net .entry)) (now (table .entry)) c (now (tokens .entry)) (now (state .entry))) (k .0)) (k .0) set) × (now (rules .exit) ≡ rulesAs (mark (netIn (now (net .entry)) (now (table .entry)) c (now (tokens .entry))) (stateOf (now (net .entry)) (now (table .entry)) c (now (tokens .entry)) (now (state .entry))) (k .0)) (k .0) (c .boxes) (now (rules .entry))) ⌝ }
+{
+    match mark_of(net, table, c, starts, tokens, fields, k, state) {
+        Tried::Quiet => Step::Go { set },
+        Tried::Faulty { number } => Step::Fault { number },
+        Tried::Fires { rule } => Step::Go {
+            set: noted(k, rule, c.boxes, set, rules),
+        },
+    }
+}
+
+// The marks of all processes in turn, up to the lowest that faults; rule numbers of boxes that are marked are noted.
+pub fn mark_all(
+    net: &[u8],
+    table: &[u16],
+    c: Counts,
+    starts: &[u16],
+    tokens: &[u8],
+    fields: &[u16],
+    state: &[u8],
+    rules: &mut [u8],
+) -> MarkAnswer
+    requires { ⌜ Standing (now net) (now table) (now starts) (now tokens) (now state) c ⌝ }
+    requires { ⌜ Fields (now net) (now table) (now tokens) (now fields) c ⌝ }
+    requires { ⌜ now rules ≡ replicate 32 16 ⌝ }
+    ensures { λ r. ⌜ markingOf r (now (rules .exit)) ≡ marksOf (netIn (now (net .entry)) (now (table .entry)) c (now (tokens .entry))) (stateOf (now (net .entry)) (now (table .entry)) c (now (tokens .entry)) (now (state .entry))) (finding (netIn (now (net .entry)) (now (table .entry)) c (now (tokens .entry))) (stateOf (now (net .entry)) (now (table .entry)) c (now (tokens .entry)) (now (state .entry)))) ⌝ }
+{
+    let total = c.boxes + c.inputs + c.outputs;
+    let mut set: u64 = 0;
+    let mut k: usize = 0;
+    while k < total {
+        let process = ProcessId(k as u8);
+        let step = mark_next(
+            net,
+            table,
+            c,
+            starts,
+            tokens,
+            fields,
+            process,
+            state,
+            set,
+            rules,
+        );
+        match step {
+            Step::Fault { number } => {
+                return MarkAnswer::Refused {
+                    refusal: Refusal { number, place: k },
+                };
+            }
+            Step::Go { set: more } => {
+                set = more;
+                k += 1;
+            }
+        }
+    }
+    MarkAnswer::Marks { set }
 }
