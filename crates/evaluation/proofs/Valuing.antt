@@ -24,8 +24,8 @@ use Rattle.expressions.specs.Reading.{shallow, fitsAt}
 use Rattle.expressions.proofs.Heads.{named-precise}
 use Rattle.expressions.proofs.Depths.{four-up}
 use Rattle.expressions.proofs.Shapes.{one-operand, two-operands, three-operands, at-most-three, build-cast, build-one, build-two, build-if}
-use Rattle.expressions.proofs.Calls as calls
-use Rattle.expressions.proofs.Calls.{Call, two-or-three, Reached, Next, there, all, end, count-all, next, last, deep}
+use Rattle.expressions.proofs.Turns as turns
+use Rattle.expressions.proofs.Turns.{Call, two-or-three, Reached, Next, there, all, end, count-all, next, last, deep}
 use Rattle.types.specs.Scopes.{scopeIn, placed, typedAt}
 use Rattle.types.proofs.Judging.{Typeds, typed-built, typeds-at, type-drop}
 use Rattle.evaluation.specs.declared.Evaluated.{Evaluated}
@@ -121,7 +121,7 @@ module _ (en : Env) (call : Call) where
 pub cast-precise : (x : Call) {named : Ty} → named ≡ typeAt (x .s) (x .at + 1) → x .c ≡ 3 → (1 ≤ named .p) × (named .p ≤ 62)
 cast-precise x q e =
     let n : (eqb (x .c) 0 || eqb (x .c) 3) ≡ true = rw (ne-eqb (x .c) 0 (λ i. omega arith), eq-eqb (x .c) 3 e) in
-    named-precise (x .s) (x .at) (x .c) (x .head) n (calls.precise x) q
+    named-precise (x .s) (x .at) (x .c) (x .head) n (turns.precise x) q
 
 -- a signed local that holds a value, back from its bits
 pub stored : {t : Ty} {z : ℤ} → Small t z → toZ w64 (ofZ w64 z) ≡ z

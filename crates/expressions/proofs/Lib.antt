@@ -4,5 +4,5 @@ pub mod Heads
 pub mod Shapes
 pub mod Depths
 pub mod Parts
-pub mod Calls
+pub mod Turns
 pub mod Leaves

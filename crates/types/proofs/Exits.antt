@@ -11,7 +11,7 @@ use Rattle.model.specs.Values.{isBool, sameType}
 use Rattle.model.specs.Expressions.{Exp, Read, got, headSize, operands, typeAt, build, expression, Scope, Typed, typed, ill, judged, twoType, typeOf}
 use Rattle.expressions.specs.Reading.{fitsAt}
 use Rattle.expressions.proofs.Parts.{sizes, sizes-append, size-is}
-use Rattle.expressions.proofs.Calls.{Call, deep, all, count-all, Reached, begin, next, counted, last}
+use Rattle.expressions.proofs.Turns.{Call, deep, all, count-all, Reached, begin, next, counted, last}
 use Rattle.types.specs.declared.Typing.{Typing}
 use Rattle.types.specs.declared.Typing.the-variants as typing
 use Rattle.types.specs.Scopes.{placed, typedAt}

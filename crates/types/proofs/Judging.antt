@@ -15,7 +15,7 @@ use Rattle.model.specs.Expressions.{Exp, Read, got, headSize, operands, typeAt,
 use Rattle.expressions.proofs.Depths.{four-up}
 use Rattle.expressions.proofs.Shapes.{one-operand, two-operands, three-operands, at-most-three, build-cast, build-one, build-two, build-if}
 use Rattle.expressions.proofs.Parts.{sizes}
-use Rattle.expressions.proofs.Calls.{Call, there}
+use Rattle.expressions.proofs.Turns.{Call, there}
 use Rattle.types.specs.declared.Typing.the-variants as typing
 use Rattle.types.specs.Scopes.{placed, typedAt}
 

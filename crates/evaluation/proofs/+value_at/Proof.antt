@@ -5,7 +5,7 @@ use native.Mathlib.Nat.{pos-of-ne-zero}
 use native.Mathlib.Omega.{arith}
 use borrow.Author.Needs.{needs}
 use Rattle.expressions.proofs.Reading.{head-pos}
-use Rattle.expressions.proofs.Calls.{Call, deep, whole, no-operands, head-inside, begin, two-up, three-is}
+use Rattle.expressions.proofs.Turns.{Call, deep, whole, no-operands, head-inside, begin, two-up, three-is}
 use Rattle.evaluation.specs.declared.Evaluated.the-variants as evaluated
 use Rattle.evaluation.proofs.Valuing.{Work, Operand, operand, asked, ends-inside, small, First, first, exit-first, exit-one, Chosen, chosen, exit-second, exit-two, exit-if, answerAt, cast-precise, stored}
 use borrow.Fn.Kinds.{In}

@@ -6,7 +6,7 @@ use native.Mathlib.Omega.{arith}
 use borrow.Author.Needs.{needs}
 use Rattle.model.specs.declared.Ty.{Ty}
 use Rattle.expressions.proofs.Reading.{head-pos}
-use Rattle.expressions.proofs.Calls.{Call, deep, whole, precise, no-operands, head-inside, two-up, three-is}
+use Rattle.expressions.proofs.Turns.{Call, deep, whole, precise, no-operands, head-inside, two-up, three-is}
 use Rattle.types.specs.Scopes.{scopeIn}
 use Rattle.types.proofs.Exits.{Judged, unjudged, asked, onward, exit-ill, exit-one, exit-two, exit-if}
 use borrow.Fn.Kinds.{In}
