@@ -51,9 +51,9 @@ unfolding listRead ruleRead ruleIs
 ins-of w = rw (w .ins .read, rule-read w)
 
 -- a body that is laid out has parts
-record Parted (a : Arity) (b : List ℕ) : Type 0 where
-  parts : Parts
-  whole : layoutOf a b ≡ layout.Whole parts
+pub record Parted (a : Arity) (b : List ℕ) : Type 0 where
+  pub parts : Parts
+  pub whole : layoutOf a b ≡ layout.Whole parts
 
 parted : (a : Arity) (b : List ℕ) (y : Layout) → layoutOf a b ≡ y → isLaid y ≡ true → Parted a b
 unfolding isLaid
@@ -86,7 +86,7 @@ module _ (s t : List ℕ) (c : Counts) (h : Tabled s t c) (k : ℕ) (l : k < c .
       unfolding shapeIn
       ins-types = ap (λ (y : Shape). y .ins) (d ∙ shape-is)
 
-      outs-types : typesIn outs (a .outs) ≡ sh .outs
+      pub outs-types : typesIn outs (a .outs) ≡ sh .outs
       unfolding shapeIn
       outs-types = ap (λ (y : Shape). y .outs) (d ∙ shape-is)
 
@@ -94,7 +94,7 @@ module _ (s t : List ℕ) (c : Counts) (h : Tabled s t c) (k : ℕ) (l : k < c .
       unfolding shapeIn
       vars-types = ap (λ (y : Shape). y .vars) (d ∙ shape-is)
 
-      many : (t′ : List ℕ) (n : ℕ) {ts : List Ty} → typesIn t′ n ≡ ts → length ts ≡ n
+      pub many : (t′ : List ℕ) (n : ℕ) {ts : List Ty} → typesIn t′ n ≡ ts → length ts ≡ n
       unfolding typesIn
       many t′ n q = ap length (sym q) ∙ length-tabulate n (λ j. typeAt t′ (2 * j))
 
@@ -132,7 +132,7 @@ module _ (s t : List ℕ) (c : Counts) (h : Tabled s t c) (k : ℕ) (l : k < c .
         pub rule-is : ruleRead (readRule (a .ins) (a .outs) (a .vars) b) ≡ rule (boxAt s x k) r
         rule-is = ap ruleRead (read-is b) ∙ ap (λ (j : ℕ). ruleRead (ruleIn sh (bodyAt s j))) (sym (rule-entry s t c h k r l m)) ∙ sym (rule-at s x [] k r (rule-known s t c h k r l m))
 
-        parts-here : Parted a b
+        pub parts-here : Parted a b
         unfolding ruleForm
         parts-here = parted a b (layoutOf a b) refl (form-is b a ∙ ap (λ (y : Read Rule). isWhole y b) (read-is b) ∙ field .passes .form)
 
@@ -142,7 +142,7 @@ module _ (s t : List ℕ) (c : Counts) (h : Tabled s t c) (k : ℕ) (l : k < c .
         limits-here : ruleLimits (field .seen) b (ruleRead (readRule (a .ins) (a .outs) (a .vars) b)) ≡ true
         limits-here = ap (λ (y : Read Rule). ruleLimits (field .seen) b (ruleRead y)) (read-is b) ∙ field .passes .limits
 
-        kept-here : Kept a (parts-here .parts) b
+        pub kept-here : Kept a (parts-here .parts) b
         kept-here =
             let w = and₅ (ltb (field .seen) 16) (leb (length b) 512) (limitsRead (expression (drop (parts-here .parts .guard) b))) (limitsOf (actionsFrom false (a .outs) (parts-here .parts .outs) b)) (limitsOf (actionsFrom true (a .vars) (parts-here .parts .sets) b))
             (sym (rule-limits laid-here (field .seen)) ∙ limits-here) in

@@ -61,7 +61,7 @@ module _ (s t p ts b : List ℕ) (c : Counts) (h : Standing s t p ts b c) (k : �
   here : k < length (x .boxes)
   here = omega (arith, l, n-boxes s t c (h .tabled))
 
-  proc-is : proc N k ≡ box B
+  pub proc-is : proc N k ≡ box B
   unfolding netIn
   proc-is = box-proc s x (tokensOf s t c ts) k here
 
@@ -69,7 +69,7 @@ module _ (s t p ts b : List ℕ) (c : Counts) (h : Standing s t p ts b c) (k : �
   unfolding mark markOf tried
   mark-is = rw proc-is
 
-  vars-many : length vs ≡ length (B .vars)
+  pub vars-many : length vs ≡ length (B .vars)
   unfolding netIn
   vars-many =
       let g : GoodOwn N (proc N k) (own S k) = state-good s t p ts b c h .kept k (omega (arith, here, procs-length s x (tokensOf s t c ts))) in
@@ -94,7 +94,7 @@ module _ (s t p ts b : List ℕ) (c : Counts) (h : Standing s t p ts b c) (k : �
           let w = pattern-stands a (bodyAt s (ruleEntry t k r)) (ready .parts) (ready .laid) i (omega (arith, j, ins-length a (bodyAt s (ruleEntry t k r)) (ready .parts) (ready .laid))) in
           rw e′ (ap tagged (sym (w .is ∙ List·getD-append ((ruleIs (ready .laid)) .ins) ((ruleIs (ready .laid)) .vars) ignore i j)) ∙ tag-known _ _)
 
-      suits : Suits N B vs ru
+      pub suits : Suits N B vs ru
       unfolding netIn netOf shapeAt shapeOf boxAt
       suits = record {
         ins = sym (good-here .ins ∙ wire-types (wiresOf s x) ((boxOf (bodyAt s (getD (x .boxes) k 0))) .ins));

@@ -208,7 +208,7 @@ module _ (n : Net) (s : State) (b : Box) (vs : List ℤ) (v : View) (h : Seen n 
   abbrev en : Env
   en = envOf n b r (look s (b .ins) (map reads (r .ins))) vs
 
-  alike : Alike (viewEnv (sh .ins) (sh .vars) (v .vals) r) en
+  pub alike : Alike (viewEnv (sh .ins) (sh .vars) (v .vals) r) en
   unfolding viewEnv envOf scopeOf envIn
   alike = record {
     scope = record { ins = λ i. refl; vars = λ i. refl };

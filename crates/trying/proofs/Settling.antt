@@ -39,10 +39,10 @@ module _ (a : Arity) (ins vars b : List ℕ) (w : Ruled a ins vars b) where
   ins-is = rw (w .laid .ins .read, rule-read (w .laid))
 
   module _ (types : List ℕ) (h : Agree (scopeIn types) (scopeRead (typesIn ins (a .ins)) (typesIn vars (a .vars)) (patternsFrom false (a .ins) 0 b))) where
-    judged-in : Judged (scopeIn types) r
+    pub judged-in : Judged (scopeIn types) r
     judged-in = judged-same (scopeIn types) _ h r (w .judged)
 
-    fits-in : (vals : List ℤ) → ((i : ℕ) → mag (getD vals i (pos 0)) ≤ 2 ^ 31) → EnvFits vals types
+    pub fits-in : (vals : List ℤ) → ((i : ℕ) → mag (getD vals i (pos 0)) ≤ 2 ^ 31) → EnvFits vals types
     unfolding scopeRead scopeOf
     fits-in vals small =
         env-fits (record { ins = typesIn ins (a .ins); outs = []; vars = typesIn vars (a .vars) }) r vals types (w .good-ins) (w .good-vars)
@@ -54,7 +54,7 @@ module _ (a : Arity) (ins vars b : List ℕ) (w : Ruled a ins vars b) where
       guard = e;
     }
 
-    alike : (vals : List ℤ) → Alike (envIn vals types) (viewEnv (typesIn ins (a .ins)) (typesIn vars (a .vars)) vals r)
+    pub alike : (vals : List ℤ) → Alike (envIn vals types) (viewEnv (typesIn ins (a .ins)) (typesIn vars (a .vars)) vals r)
     unfolding viewEnv envIn scopeRead
     alike vals = record {
       scope = subst (λ (ps : List Pattern). Agree (scopeIn types) (record { ins = matchedTypes (typesIn ins (a .ins)) ps; vars = typesIn vars (a .vars) })) ins-is h;

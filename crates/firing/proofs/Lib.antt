@@ -1,0 +1,3 @@
+-- Laws that the proofs of firing cite.
+pub mod Doing
+pub mod Deeds

@@ -1,0 +1,58 @@
+-- One firing of a box: what it asks of the state that it finds, and the deed as the code works it out from a rule's body.
+-- Assumes nothing.
+use Prim.Native.Nat.{ℕ, _+_, _≤_, _<_}
+use mathlib.Core.Path.{_≡_}
+use mathlib.Core.Bool.{true, false}
+use mathlib.Core.List.{List}
+use lib.IntN.{ℤ, pos}
+use lib.ListN.{length, getD}
+use Rattle.model.specs.Network.{Box, Net, vars, State, wire, capacity, proc, queue, own, varsOf, insOf}
+use Rattle.model.specs.States.{tokensFit}
+use Rattle.model.specs.Cycles.{Deed, look, moves, readsOf, deedOf}
+use Rattle.model.specs.Orders.{onWire}
+use Rattle.model.proofs.Kept.{GoodOwn}
+use Rattle.shapes.specs.declared.Arity.{Arity}
+use Rattle.rules.specs.declared.Parts.{Parts}
+use Rattle.types.specs.Scopes.{scopeIn}
+use Rattle.evaluation.specs.Envs.{EnvFits}
+use Rattle.table.specs.declared.Counts.{Counts}
+use Rattle.lookup.specs.Entries.{rulesIn}
+use Rattle.actions.proofs.Acting.{Ready}
+use Rattle.taking.specs.Reading.{readFrom, CanRead}
+use Rattle.putting.specs.Putting.{sentFrom, newFrom}
+
+-- the deed of process k under rule r, on the state that it finds
+unfoldable pub deedAt : Net → ℕ → ℕ → State → Deed
+deedAt n k r s = let p = proc n k in deedOf n p r (look s (insOf p) (readsOf p r)) (own s k)
+
+-- a token on each wire that the deed takes from, a place on each that it puts on; its tokens and what the process keeps are of the types
+pub record Sound (n : Net) (s : State) (k : ℕ) (d : Deed) : Type 0 where
+  pub has : (w : ℕ) → length (onWire w (d .took)) ≤ length (queue s w)
+  pub room : (w : ℕ) → length (queue s w) + length (onWire w (d .put)) ≤ capacity n w
+  pub fit : (w : ℕ) → tokensFit ((wire n w) .ty) (onWire w (d .put)) ≡ true
+  pub keeps : GoodOwn n (proc n k) (d .keeps)
+
+-- box k has a rule r, and can fire under it; t is the table
+pub record BoxReady (t : List ℕ) (c : Counts) (n : Net) (s : State) (k r : ℕ) : Type 0 where
+  pub known : k < c .boxes
+  pub there : r < rulesIn t (c .boxes) (c .rules) k
+  pub sound : Sound n s k (deedAt n k r s)
+
+-- the deed of box k as a rule's body with these parts says it, from these values and types
+unfoldable pub deedIn : Box → Arity → Parts → List ℕ → List ℤ → List ℕ → ℕ → State → Deed
+deedIn b a p body vals types k s = record {
+  took = moves (b .ins) (look s (b .ins) (readFrom (length (b .ins)) 0 body));
+  put = sentFrom vals types (b .outs) body (a .outs) (p .outs);
+  keeps = vars (newFrom vals types (varsOf (own s k)) body (a .vars) (p .sets));
+}
+
+-- that deed can be done
+pub record Works (c : Counts) (n : Net) (s : State) (b : Box) (k : ℕ) (a : Arity) (p : Parts) (body : List ℕ) (vals : List ℤ) (types : List ℕ) : Type 0 where
+  pub read : CanRead c s (b .ins) k body
+  pub outs : a .outs ≡ length (b .outs)
+  pub vars : (a .vars ≤ 4) × (a .vars ≡ length (varsOf (own s k)))
+  pub sends : Ready (scopeIn types) false body (a .outs) (p .outs)
+  pub sets : Ready (scopeIn types) true body (a .vars) (p .sets)
+  pub env : EnvFits vals types
+  pub held : (j : ℕ) → j < length (varsOf (own s k)) → getD vals (4 + j) (pos 0) ≡ getD (varsOf (own s k)) j (pos 0)
+  pub sound : Sound n s k (deedIn b a p body vals types k s)

@@ -1,0 +1,2 @@
+-- What the contracts of firing cite beside the model.
+pub mod Firing

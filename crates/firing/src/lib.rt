@@ -1,0 +1,107 @@
+// One firing of a process under the rule that was chosen at the cycle's start, in place on the lent state.
+use model::ProcessId;
+use model::RuleId;
+use rules::Layout;
+use rules::Parts;
+use shapes::Arity;
+use table::Counts;
+ghost use Rattle.model.specs.NetworkFile.{boxAt};
+ghost use Rattle.model.specs.Cycles.{act};
+ghost use Rattle.table.specs.Table.{indexIn};
+ghost use Rattle.places.specs.Standing.{Standing, netIn, stateOf};
+ghost use Rattle.moves.specs.Moves.{Became};
+ghost use Rattle.taking.specs.Taking.{fired};
+ghost use Rattle.firing.specs.Firing.{BoxReady, deedIn, Works};
+
+// What a rule's body says, done by box k: tokens taken, then results put, then new values kept.
+fn apply(
+    net: &[u8],
+    table: &[u16],
+    c: Counts,
+    starts: &[u16],
+    tokens: &[u8],
+    k: ProcessId,
+    body: &[u8],
+    a: Arity,
+    p: Parts,
+    vals: &[i64; 8],
+    types: &[u8; 16],
+    state: &mut [u8],
+)
+    requires { ⌜ Standing (now net) (now table) (now starts) (now tokens) (now state) c ⌝ }
+    requires { ⌜ Works c (netIn (now net) (now table) c (now tokens)) (stateOf (now net) (now table) c (now tokens) (now state)) (boxAt (now net) (indexIn (now table) c) (k .0)) (k .0) a p (now body) (now vals) (now types) ⌝ }
+    ensures { λ _. ⌜ Became (now (net .entry)) (now (table .entry)) (now (starts .entry)) (now (tokens .entry)) (now (state .entry)) c (now (state .exit)) (act (k .0) (deedIn (boxAt (now (net .entry)) (indexIn (now (table .entry)) c) (k .0)) a p (now (body .entry)) (now (vals .entry)) (now (types .entry)) (k .0) (stateOf (now (net .entry)) (now (table .entry)) c (now (tokens .entry)) (now (state .entry)))) (stateOf (now (net .entry)) (now (table .entry)) c (now (tokens .entry)) (now (state .entry)))) ⌝ }
+{
+    taking::take_read(net, table, c, starts, tokens, k, body, state);
+    putting::put_sent(
+        net,
+        table,
+        c,
+        starts,
+        tokens,
+        k,
+        body,
+        p.outs,
+        a.outs,
+        vals,
+        types,
+        state,
+    );
+    putting::keep_new(
+        net,
+        table,
+        c,
+        starts,
+        tokens,
+        k,
+        body,
+        p.sets,
+        a.vars,
+        vals,
+        types,
+        state,
+    );
+}
+
+// Box k fires under rule r: its shape, the rule's parts and types, and what it sees, all from before anything is taken.
+pub fn fire_box(
+    net: &[u8],
+    table: &[u16],
+    c: Counts,
+    starts: &[u16],
+    tokens: &[u8],
+    k: ProcessId,
+    r: RuleId,
+    state: &mut [u8],
+)
+    requires { ⌜ Standing (now net) (now table) (now starts) (now tokens) (now state) c ⌝ }
+    requires { ⌜ BoxReady (now table) c (netIn (now net) (now table) c (now tokens)) (stateOf (now net) (now table) c (now tokens) (now state)) (k .0) (r .0) ⌝ }
+    ensures { λ _. ⌜ Became (now (net .entry)) (now (table .entry)) (now (starts .entry)) (now (tokens .entry)) (now (state .entry)) c (now (state .exit)) (fired (netIn (now (net .entry)) (now (table .entry)) c (now (tokens .entry))) (k .0) (r .0) (stateOf (now (net .entry)) (now (table .entry)) c (now (tokens .entry)) (now (state .entry)))) ⌝ }
+{
+    let mut ins = [0u8; 8];
+    let mut outs = [0u8; 8];
+    let mut vars = [0u8; 8];
+    let at = octets::entry(table, 64 + octets::wide(k.0));
+    let a = shapes::shape_of(net, table, c.wires, at, &mut ins, &mut outs, &mut vars);
+    let body = lookup::rule_body(net, table, k, r);
+    let Layout::Whole { parts } = rules::parts_of(body, a) else {
+        return;
+    };
+    let types = typing::scope(body, &ins, &vars, a);
+    let v = sights::view_of(net, table, c, starts, tokens, k, state);
+    let vals = v.vals;
+    apply(
+        net,
+        table,
+        c,
+        starts,
+        tokens,
+        k,
+        body,
+        a,
+        parts,
+        &vals,
+        &types,
+        state,
+    );
+}
