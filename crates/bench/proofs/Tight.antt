@@ -13,15 +13,16 @@ use Rattle.model.specs.declared.LoadAnswer.{LoadAnswer}
 use Rattle.model.specs.declared.LoadAnswer.the-variants as load
 use Rattle.model.specs.declared.MarkAnswer.{MarkAnswer}
 use Rattle.model.specs.declared.MarkAnswer.the-variants as mark
+use Rattle.model.specs.declared.Marked.{Marked}
 use Rattle.model.specs.declared.CycleAnswer.{CycleAnswer}
 use Rattle.model.specs.declared.CycleAnswer.the-variants as cycle
 use Rattle.model.specs.declared.RunAnswer.{RunAnswer}
 use Rattle.model.specs.declared.RunAnswer.the-variants as run
 use Rattle.model.specs.declared.WriteAnswer.{WriteAnswer}
 use Rattle.model.specs.declared.WriteAnswer.the-variants as write
-use Rattle.model.specs.Calls.{Answer, After, refusal, saidCheck, saidLoad, saidMark, saidCycle, saidEnding, saidRun, saidWrite, checkCall, bodyCall, loadCall, writeCall}
+use Rattle.model.specs.Calls.{Answer, After, Marking, markCall, refusal, saidCheck, saidLoad, saidMark, saidCycle, saidEnding, saidRun, saidWrite, checkCall, bodyCall, loadCall, writeCall}
 use Rattle.octets.specs.Part.{PartOf}
-use Rattle.bench.specs.Afters.{after, Plain}
+use Rattle.bench.specs.Afters.{after, markedAs, Plain}
 
 -- ── what is said determines the answer ───────────────────────────────────────────────────────
 
@@ -121,3 +122,11 @@ load-tight s ts st u v r q e f = (load-one r q (answers-same _ _ u v (e ∙ sym 
 
 pub write-tight : (s st out u v : List ℕ) (r q : WriteAnswer) → after (saidWrite r) u ≡ writeCall s st out → after (saidWrite q) v ≡ writeCall s st out → (r ≡ q) × (u ≡ v)
 write-tight s st out u v r q e f = (write-one r q (answers-same _ _ u v (e ∙ sym f)), bytes-same (saidWrite r) (saidWrite q) u v (e ∙ sym f))
+
+pub mark-tight : (s ts b : List ℕ) (r q : Marked) → markedAs r ≡ markCall s ts b → markedAs q ≡ markCall s ts b → r ≡ q
+unfolding markedAs
+mark-tight s ts b r q e f =
+    let g : markedAs r ≡ markedAs q = e ∙ sym f in
+    let a : r .answer ≡ q .answer = mark-one (r .answer) (q .answer) (ap (λ (m : Marking). m .answer) g) in
+    let k : r .rules ≡ q .rules = ap (λ (m : Marking). m .rules) g in
+    ap₂ (λ (x : MarkAnswer) (y : List ℕ). record { answer = x; rules = y }) a k

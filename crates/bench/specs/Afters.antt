@@ -6,12 +6,13 @@ use mathlib.Core.Bool.{false}
 use mathlib.Core.List.{List, _++_}
 use lib.ListN.{length, drop}
 use Rattle.model.specs.declared.Ending.the-variants as ending
+use Rattle.model.specs.declared.Marked.{Marked}
 use Rattle.model.specs.declared.RunAnswer.{RunAnswer}
 use Rattle.model.specs.declared.RunAnswer.the-variants as run
 use Rattle.model.specs.Network.{Net, loaded}
 use Rattle.model.specs.NetworkFile.{next, byVerdict}
 use Rattle.model.specs.States.{stateSize}
-use Rattle.model.specs.Calls.{Answer, loaded-with, written, refused, After, keeps, leaves, roomy, held, fileIn}
+use Rattle.model.specs.Calls.{Answer, loaded-with, written, refused, After, Marking, saidMark, keeps, leaves, roomy, held, fileIn}
 
 unfoldable pub after : Answer → List ℕ → After
 after a b = record { answer = a; bytes = b }
@@ -22,6 +23,10 @@ loadIn n st =
     byVerdict (roomy st n)
     (λ n. leaves st n (loaded n) (loaded-with (stateSize n)))
     (λ n p. keeps st (refused n p 0))
+
+-- a marking's answer, with the rule numbers beside it
+unfoldable pub markedAs : Marked → Marking
+markedAs r = record { answer = saidMark (r .answer); rules = r .rules }
 
 -- the output file of an accepted network
 unfoldable pub writeIn : Net → List ℕ → List ℕ → After

@@ -1,15 +1,19 @@
 // The calls of the bench on lent memory: refusals in the order of document 01, then the work. None of them asks for anything.
 use model::CheckAnswer;
 use model::LoadAnswer;
+use model::MarkAnswer;
+use model::Marked;
 use model::Refusal;
 use model::WriteAnswer;
 use opening::Opened;
 use table::Counts;
 ghost use mathlib.Core.Path.{_≡_};
-ghost use Rattle.model.specs.Calls.{saidLoad, saidWrite, loadCall, writeCall};
-ghost use Rattle.places.specs.Standing.{bareNet};
+ghost use Rattle.model.specs.Cycles.{finding};
+ghost use Rattle.model.specs.Calls.{saidLoad, saidWrite, marksOf, loadCall, markCall, writeCall};
+ghost use Rattle.places.specs.Standing.{bareNet, netIn, Standing, stateOf};
+ghost use Rattle.token_file.specs.Fields.{Fields};
 ghost use Rattle.opening.specs.Opening.{Open};
-ghost use Rattle.bench.specs.Afters.{after, loadIn, writeIn};
+ghost use Rattle.bench.specs.Afters.{after, loadIn, markedAs, writeIn};
 
 // A load of an accepted network: 6 for a buffer that is too short.
 fn load_in(
@@ -45,6 +49,49 @@ pub fn load(net: &[u8], tokens: &[u8], state: &mut [u8]) -> LoadAnswer
     match opening::open_files(net, tokens, &mut table, &mut starts, &mut fields) {
         Opened::Refused { refusal } => LoadAnswer::Refused { refusal },
         Opened::Good { counts, size } => load_in(net, &table, counts, &starts, size, state),
+    }
+}
+
+// The marks in a state that stands; beside a fault each box has 16.
+fn mark_in(
+    net: &[u8],
+    table: &[u16],
+    c: Counts,
+    starts: &[u16],
+    tokens: &[u8],
+    fields: &[u16],
+    state: &[u8],
+) -> Marked
+    requires { ⌜ Standing (now net) (now table) (now starts) (now tokens) (now state) c ⌝ }
+    requires { ⌜ Fields (now net) (now table) (now tokens) (now fields) c ⌝ }
+    ensures { λ r. ⌜ markedAs r ≡ marksOf (netIn (now (net .entry)) (now (table .entry)) c (now (tokens .entry))) (stateOf (now (net .entry)) (now (table .entry)) c (now (tokens .entry)) (now (state .entry))) (finding (netIn (now (net .entry)) (now (table .entry)) c (now (tokens .entry))) (stateOf (now (net .entry)) (now (table .entry)) c (now (tokens .entry)) (now (state .entry)))) ⌝ }
+{
+    let mut rules = [16u8; 32];
+    let answer = marking::mark_all(net, table, c, starts, tokens, fields, state, &mut rules);
+    if let MarkAnswer::Refused { refusal: _ } = answer {
+        return Marked {
+            answer,
+            rules: [16u8; 32],
+        };
+    }
+    Marked { answer, rules }
+}
+
+// The marked set, and the rule number of each of 32 boxes.
+pub fn mark(net: &[u8], tokens: &[u8], state: &[u8]) -> Marked
+    ensures { λ r. ⌜ markedAs r ≡ markCall (now (net .entry)) (now (tokens .entry)) (now (state .entry)) ⌝ }
+{
+    let mut table = [0u16; 656];
+    let mut starts = [0u16; 112];
+    let mut fields = [0u16; 8];
+    match opening::open_state(net, tokens, &mut table, &mut starts, &mut fields, state) {
+        Opened::Refused { refusal } => Marked {
+            answer: MarkAnswer::Refused { refusal },
+            rules: [16u8; 32],
+        },
+        Opened::Good { counts, size: _ } => {
+            mark_in(net, &table, counts, &starts, tokens, &fields, state)
+        }
     }
 }
 
