@@ -1,3 +1,4 @@
 -- Laws that the proofs of firing cite.
 pub mod Doing
 pub mod Deeds
+pub mod Choosing

@@ -1,4 +1,4 @@
--- One firing of a box: what it asks of the state that it finds, and the deed as the code works it out from a rule's body.
+-- One firing: what it asks of the state that it finds, and a box's deed as the code works it out from a rule's body.
 -- Assumes nothing.
 use Prim.Native.Nat.{ℕ, _+_, _≤_, _<_}
 use mathlib.Core.Path.{_≡_}
@@ -8,7 +8,7 @@ use lib.IntN.{ℤ, pos}
 use lib.ListN.{length, getD}
 use Rattle.model.specs.Network.{Box, Net, vars, State, wire, capacity, proc, queue, own, varsOf, insOf}
 use Rattle.model.specs.States.{tokensFit}
-use Rattle.model.specs.Cycles.{Deed, look, moves, readsOf, deedOf}
+use Rattle.model.specs.Cycles.{Deed, fires, look, moves, readsOf, deedOf, mark}
 use Rattle.model.specs.Orders.{onWire}
 use Rattle.model.proofs.Kept.{GoodOwn}
 use Rattle.shapes.specs.declared.Arity.{Arity}
@@ -36,6 +36,14 @@ pub record Sound (n : Net) (s : State) (k : ℕ) (d : Deed) : Type 0 where
 pub record BoxReady (t : List ℕ) (c : Counts) (n : Net) (s : State) (k r : ℕ) : Type 0 where
   pub known : k < c .boxes
   pub there : r < rulesIn t (c .boxes) (c .rules) k
+  pub sound : Sound n s k (deedAt n k r s)
+
+-- process k was marked by rule r in the state of the cycle's start, still keeps what it kept there, and its deed can be done
+pub record Chosen (c : Counts) (n : Net) (s : State) (k r : ℕ) : Type 0 where
+  pub known : k < c .boxes + c .inputs + c .outputs
+  pub start : State
+  pub same : own s k ≡ own start k
+  pub marked : mark n start k ≡ fires r
   pub sound : Sound n s k (deedAt n k r s)
 
 -- the deed of box k as a rule's body with these parts says it, from these values and types

@@ -10,8 +10,9 @@ ghost use Rattle.model.specs.Cycles.{act};
 ghost use Rattle.table.specs.Table.{indexIn};
 ghost use Rattle.places.specs.Standing.{Standing, netIn, stateOf};
 ghost use Rattle.moves.specs.Moves.{Became};
+ghost use Rattle.token_file.specs.Fields.{Fields};
 ghost use Rattle.taking.specs.Taking.{fired};
-ghost use Rattle.firing.specs.Firing.{BoxReady, deedIn, Works};
+ghost use Rattle.firing.specs.Firing.{BoxReady, Chosen, deedIn, Works};
 
 // What a rule's body says, done by box k: tokens taken, then results put, then new values kept.
 fn apply(
@@ -104,4 +105,33 @@ pub fn fire_box(
         &types,
         state,
     );
+}
+
+// Process k fires, a box under rule r; an input and an output have one way to fire.
+pub fn fire(
+    net: &[u8],
+    table: &[u16],
+    c: Counts,
+    starts: &[u16],
+    tokens: &[u8],
+    fields: &[u16],
+    k: ProcessId,
+    r: RuleId,
+    state: &mut [u8],
+)
+    requires { ⌜ Standing (now net) (now table) (now starts) (now tokens) (now state) c ⌝ }
+    requires { ⌜ Fields (now net) (now table) (now tokens) (now fields) c ⌝ }
+    requires { ⌜ Chosen c (netIn (now net) (now table) c (now tokens)) (stateOf (now net) (now table) c (now tokens) (now state)) (k .0) (r .0) ⌝ }
+    ensures { λ _. ⌜ Became (now (net .entry)) (now (table .entry)) (now (starts .entry)) (now (tokens .entry)) (now (state .entry)) c (now (state .exit)) (fired (netIn (now (net .entry)) (now (table .entry)) c (now (tokens .entry))) (k .0) (r .0) (stateOf (now (net .entry)) (now (table .entry)) c (now (tokens .entry)) (now (state .entry)))) ⌝ }
+{
+    let i = octets::wide(k.0);
+    if i < c.boxes {
+        fire_box(net, table, c, starts, tokens, k, r, state);
+        return;
+    }
+    if i < c.boxes + c.inputs {
+        taking::fire_input(net, table, c, starts, tokens, fields, k, state);
+        return;
+    }
+    taking::fire_output(net, table, c, starts, tokens, k, state);
 }
