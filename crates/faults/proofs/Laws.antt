@@ -18,6 +18,8 @@ use Rattle.model.specs.Bytes.{twoAt, valueAt}
 use Rattle.model.specs.Values.{isBool, inPrecision, wellSized, isPlain, within}
 use Rattle.model.specs.Expressions.{typeAt}
 use Rattle.model.specs.NetworkFile.{faultOf, wireForm, wireLimits, wireTypeFits, variableStart, every, boxForm, boxLimits, variableFits, boxTypes, inputForm, outputForm, outputLimits}
+use Rattle.model.proofs.Tests.{and-left, and-right}
+use Rattle.model.proofs.Decoded.{every-at}
 use Rattle.faults.specs.Variables.{fitsAt}
 
 -- the first step that fails decides the number
@@ -152,14 +154,6 @@ module _ (b : List ℕ) (wires seen : ℕ) where
       unfolding outputLimits
       output-6 l p q = fault-0 _ _ _ output-form (simp (lt-ltb seen 8 l, le-leb 1 (twoAt b 1) p, le-leb (twoAt b 1) 1000 q)) refl
 
-pub and-left : (a b : Bool) → a && b ≡ true → a ≡ true
-and-left true b e = refl
-and-left false b e = e
-
-pub and-right : (a b : Bool) → a && b ≡ true → b ≡ true
-and-right true b e = e
-and-right false b e = let z : _≡_ {A = ℕ} 0 1 = cc in absurd (omega arith)
-
 and-false : (a b : Bool) → b ≡ false → a && b ≡ false
 and-false true b e = e
 and-false false b e = refl
@@ -208,31 +202,26 @@ module _ (b : List ℕ) (wires : ℕ) where
   unfolding boxForm
   box-short h = simp (lt-leb 3 (length b) h)
 
-  pub box-length : (v : ℕ) → v ≡ variableStart b (getD b 2 0) → 3 ≤ length b → (length b ≡ v → ⊥) → false ≡ boxForm wires b
-  unfolding boxForm
-  box-length v e h g = simp (le-leb 3 (length b) h, ne-eqb (length b) (variableStart b (getD b 2 0)) (rw e at g))
+  module _ (vars v : ℕ) (m : vars ≡ getD b 2 0) (e : v ≡ variableStart b vars) (h : 3 ≤ length b) where
+    whole : variableStart b (getD b 2 0) ≡ v
+    whole = ap (variableStart b) (sym m) ∙ sym e
 
-  module _ (v ports : ℕ) (e : v ≡ variableStart b (getD b 2 0)) (d : ports ≡ getD b 0 0 + getD b 1 0) (h : 3 ≤ length b) (g : length b ≡ v) where
-    pub box-ports : (q : Bool) → q ≡ every ports (Declared b wires) → q ≡ false → false ≡ boxForm wires b
+    pub box-length : (length b ≡ v → ⊥) → false ≡ boxForm wires b
     unfolding boxForm
-    box-ports q p z = simp (le-leb 3 (length b) h, eq-eqb (length b) (variableStart b (getD b 2 0)) (g ∙ e), ← d, ← p, z)
+    box-length g = simp (le-leb 3 (length b) h, whole, ne-eqb (length b) v g)
 
-    pub box-kinds : (q r : Bool) → q ≡ every ports (Declared b wires) → q ≡ true → r ≡ every (getD b 2 0) (AtEach b (λ (k : ℕ). leb (getD b k 0) 4)) → r ≡ boxForm wires b
-    unfolding boxForm
-    box-kinds q r p z y = simp (le-leb 3 (length b) h, eq-eqb (length b) (variableStart b (getD b 2 0)) (g ∙ e), ← d, ← p, z, ← y)
+    module _ (g : length b ≡ v) (ports : ℕ) (d : ports ≡ getD b 0 0 + getD b 1 0) (q : Bool) (p : q ≡ every ports (Declared b wires)) where
+      pub box-ports : q ≡ false → false ≡ boxForm wires b
+      unfolding boxForm
+      box-ports z = simp (le-leb 3 (length b) h, whole, eq-eqb (length b) v g, ← d, ← p, z)
 
--- what holds of every number below n holds of each
-pub every-at : (n k : ℕ) (f : ℕ → Bool) → k < n → every n f ≡ true → f k ≡ true
-unfolding every
-every-at zero k f h e = absurd (omega arith)
-every-at (suc n) k f h e = cases (λ g. every-at n k f g (and-left (every n f) (f n) e)) (eqb k n) refl
-  where
-    cases : (k < n → f k ≡ true) → (q : Bool) → eqb k n ≡ q → f k ≡ true
-    cases ih true d = rw (eqb-true k n d) (and-right (every n f) (f n) e)
-    cases ih false d = let z = eqb-false k n d in ih (omega arith)
+      pub box-kinds : (r : Bool) → q ≡ true → r ≡ every vars (AtEach b (λ (k : ℕ). leb (getD b k 0) 4)) → r ≡ boxForm wires b
+      unfolding boxForm
+      box-kinds r z y = simp (le-leb 3 (length b) h, whole, eq-eqb (length b) v g, ← d, ← p, z, ← m, ← y)
 
+-- what holds of each variable holds of this one
 pub each-at : (b : List ℕ) (f : ℕ → Bool) (n j v : ℕ) → v ≡ variableStart b j → j < n → every n (AtEach b f) ≡ true → f v ≡ true
-each-at b f n j v e h d = rw e (every-at n j (AtEach b f) h d)
+each-at b f n j v e h d = rw e (every-at n (AtEach b f) d j h)
 
 -- the limits of a box
 module _ (b : List ℕ) (seen : ℕ) where

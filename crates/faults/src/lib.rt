@@ -79,14 +79,22 @@ pub fn output_fault(b: &[u8], wires: usize, seen: usize) -> u8
     if 1000 < room { 2 } else { 0 }
 }
 
+// How many ports a box's body states.
+fn ports_of(b: &[u8]) -> usize
+    ensures { λ r. ⌜ (r ≡ getD (now (b .entry)) 0 0 + getD (now (b .entry)) 1 0) × (r < 512) ⌝ }
+{
+    let ins = octets::wide(octets::byte_at(b, 0));
+    let outs = octets::wide(octets::byte_at(b, 1));
+    ins + outs
+}
+
 // Where variable j of a box's body begins.
 fn variable_start(b: &[u8], j: usize) -> usize
     requires { ⌜ j < 256 ⌝ }
     ensures { λ r. ⌜ (r ≡ variableStart (now (b .entry)) j) × (r < 4000) ⌝ }
 {
-    let ins = octets::wide(octets::byte_at(b, 0));
-    let outs = octets::wide(octets::byte_at(b, 1));
-    3 + ins + outs + 6 * j
+    let ports = ports_of(b);
+    3 + ports + 6 * j
 }
 
 // Each of the n wire numbers of a box's body is below the count of wires.
@@ -129,12 +137,11 @@ fn box_form(b: &[u8], wires: usize) -> bool
     if b.len() < 3 {
         return false;
     }
-    let ports = octets::wide(b[0]) + octets::wide(b[1]);
-    let vars = octets::wide(b[2]);
+    let vars = octets::wide(octets::byte_at(b, 2));
     if b.len() != variable_start(b, vars) {
         return false;
     }
-    if !ports_declared(b, ports, wires) {
+    if !ports_declared(b, ports_of(b), wires) {
         return false;
     }
     kinds_known(b, vars)

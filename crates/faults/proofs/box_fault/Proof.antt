@@ -1,7 +1,6 @@
 use Rattle.faults.proofs.Laws.{fault-1, fault-2, fault-4, fault-0, precise-of, types-are}
 use borrow.Author.Tests.{not-true, not-false}
 use mathlib.Core.Path.{sym, _∙_}
-use native.Mathlib.Omega.{arith}
 use borrow.Author.Needs.{needs}
 use Rattle.faults.proofs.box_fault.Statement.{statement}
 use Rattle.faults.proofs.box_fault.Tie as tie
@@ -25,13 +24,21 @@ wide-requires : tie.Need-wide-requires
 wide-requires c κs = search needs
 
 variables-fit-requires : tie.Need-variables-fit-requires
-variables-fit-requires c κs = let l = c .before .before .before .box-limits in (omega arith, precise-of _ (c .before .before .before .before .before .before .before .args .seen) (c .wide .result) (cc) (sym (l .ensures) ∙ not-false (l .result) (c .before .before .if2 .left)))
+variables-fit-requires c κs =
+    let l = c .before .before .before in
+    (c .wide .ensures .1, precise-of _ (l .before .before .before .before .args .seen) _ (c .wide .ensures .0 ∙ c .before .byte-at .ensures) (sym (l .box-limits .ensures) ∙ not-false _ (c .before .before .if2 .left)))
 
 returns-3 : tie.Need-returns-3
-returns-3 c = let f = c .before .before .before .before .before .before .before .box-form in let l = c .before .before .before .before .before .box-limits in let v = c .before .variables-fit in fault-0 _ _ _ (sym (f .ensures) ∙ not-false (f .result) (c .before .before .before .before .before .before .if1 .left)) (sym (l .ensures) ∙ not-false (l .result) (c .before .before .before .before .if2 .left)) (sym (types-are _ (c .before .before .wide .result) (v .result) (cc) (v .ensures)) ∙ c .if3 .taken)
+returns-3 c =
+    let w = c .before .before in
+    let l = w .before .before .before in
+    fault-0 _ _ _ (sym (l .before .before .box-form .ensures) ∙ not-false _ (l .before .if1 .left)) (sym (l .box-limits .ensures) ∙ not-false _ (w .before .before .if2 .left)) (sym (types-are _ _ _ (w .wide .ensures .0 ∙ w .before .byte-at .ensures) (c .before .variables-fit .ensures)) ∙ c .if3 .taken)
 
 returns-4 : tie.Need-returns-4
-returns-4 c = let f = c .before .before .before .before .before .before .before .box-form in let l = c .before .before .before .before .before .box-limits in let v = c .before .variables-fit in fault-4 _ _ _ (sym (f .ensures) ∙ not-false (f .result) (c .before .before .before .before .before .before .if1 .left)) (sym (l .ensures) ∙ not-false (l .result) (c .before .before .before .before .if2 .left)) (sym (types-are _ (c .before .before .wide .result) (v .result) (cc) (v .ensures)) ∙ c .if3 .left)
+returns-4 c =
+    let w = c .before .before in
+    let l = w .before .before .before in
+    fault-4 _ _ _ (sym (l .before .before .box-form .ensures) ∙ not-false _ (l .before .if1 .left)) (sym (l .box-limits .ensures) ∙ not-false _ (w .before .before .if2 .left)) (sym (types-are _ _ _ (w .wide .ensures .0 ∙ w .before .byte-at .ensures) (c .before .variables-fit .ensures)) ∙ c .if3 .left)
 
 pub box-fault-spec : {M : Type 1} → statement M
 box-fault-spec =

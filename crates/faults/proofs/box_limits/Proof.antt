@@ -1,3 +1,4 @@
+use mathlib.Core.Path.{_∙_}
 use Rattle.faults.proofs.Laws.{limits-1, limits-2, limits-3, limits-4, limits-5}
 use native.Mathlib.Omega.{arith}
 use borrow.Author.Needs.{needs}
@@ -32,7 +33,7 @@ variables-precise-requires : tie.Need-variables-precise-requires
 variables-precise-requires c κs = search needs
 
 returns-5 : tie.Need-returns-5
-returns-5 c = limits-5 _ _ (omega arith) (c .before .wide .result) _ (cc) (c .variables-precise .ensures) (omega arith) (omega arith) (omega arith)
+returns-5 c = limits-5 _ _ (omega arith) _ _ (c .before .wide .ensures .0 ∙ c .before .before .before .byte-at3 .ensures) (c .variables-precise .ensures) (omega arith) (omega arith) (omega arith)
 
 pub box-limits-spec : {M : Type 1} → statement M
 box-limits-spec =

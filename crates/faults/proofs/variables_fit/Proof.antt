@@ -5,7 +5,7 @@ use Rattle.faults.specs.Variables.{fitsAt}
 use borrow.Author.Tests.{not-true, not-false}
 use Rattle.model.specs.NetworkFile.{every}
 use mathlib.Core.Bool.{true}
-use mathlib.Core.Path.{_≡_, refl}
+use mathlib.Core.Path.{_≡_, refl, sym, _∙_}
 use Prim.Native.Nat.{ℕ, _-_, _≤_}
 use native.Mathlib.Omega.{arith}
 use borrow.Author.Needs.{needs}
@@ -26,10 +26,15 @@ variable-start-requires : tie.Need-variable-start-requires Inv-loop μ-loop
 variable-start-requires c κs = search needs
 
 variable-fits-requires : tie.Need-variable-fits-requires Inv-loop μ-loop
-variable-fits-requires c κs = let a = c .before .before .before .before .args in (omega arith, each-at (a .b .now) (λ (v : ℕ). inPrecision (typeAt (a .b .now) v)) (a .n) (c .before .before .loop .j) (c .variable-start .result) (c .variable-start .ensures .0) (omega arith) (c .before .before .before .before .pre .1))
+variable-fits-requires c κs =
+    let a = c .before .before .before .before .args in
+    (omega arith, each-at (a .b .now) (λ (v : ℕ). inPrecision (typeAt (a .b .now) v)) (a .n) (c .before .before .loop .j) (c .variable-start .result) (c .variable-start .ensures .0) (omega arith) (c .before .before .before .before .pre .1))
 
 returns : tie.Need-returns Inv-loop μ-loop
-returns c = let a = c .before .before .before .before .before .before .args in let v = c .before .before .variable-start in each-no (a .b .now) (fitsAt (a .b .now)) (a .n) (c .before .before .before .before .loop .j) (v .result) (v .ensures .0) (omega arith) (cc (not-true (c .before .variable-fits .result) (c .if1 .taken)))
+returns c =
+    let a = c .before .before .before .before .before .before .args in
+    let v = c .before .before .variable-start in
+    each-no (a .b .now) (fitsAt (a .b .now)) (a .n) (c .before .before .before .before .loop .j) (v .result) (v .ensures .0) (omega arith) (sym (c .before .variable-fits .ensures) ∙ not-true _ (c .if1 .taken))
 
 add-j : tie.Need-add-j Inv-loop μ-loop
 add-j c = search needs
@@ -38,7 +43,11 @@ loop-less : tie.Need-loop-less Inv-loop μ-loop
 loop-less c = search needs
 
 loop-again : tie.Need-loop-again Inv-loop μ-loop
-loop-again c = let a = c .before .before .before .before .before .before .args in let l = c .before .before .before .before .loop in let v = c .before .before .variable-start in (omega arith, each-more (a .b .now) (fitsAt (a .b .now)) (l .j) (v .result) (v .ensures .0) (l .inv .1) (cc (not-false (c .before .variable-fits .result) (c .if1 .left))))
+loop-again c =
+    let a = c .before .before .before .before .before .before .args in
+    let l = c .before .before .before .before .loop in
+    let v = c .before .before .variable-start in
+    (omega arith, each-more (a .b .now) (fitsAt (a .b .now)) (l .j) (v .result) (v .ensures .0) (l .inv .1) (sym (c .before .variable-fits .ensures) ∙ not-false _ (c .if1 .left)))
 
 returns-2 : tie.Need-returns-2 Inv-loop μ-loop
 returns-2 c = let a = c .before .before .before .args in let l = c .before .loop in every-end (a .n) (l .j) (AtEach (a .b .now) (fitsAt (a .b .now))) (l .inv .0) (omega arith) (l .inv .1)

@@ -4,7 +4,7 @@ use Rattle.model.specs.Expressions.{typeAt}
 use borrow.Author.Tests.{not-true, not-false}
 use Rattle.model.specs.NetworkFile.{every}
 use mathlib.Core.Bool.{true}
-use mathlib.Core.Path.{_≡_, refl}
+use mathlib.Core.Path.{_≡_, refl, sym, ap, _∙_}
 use Prim.Native.Nat.{ℕ, _-_, _≤_}
 use native.Mathlib.Omega.{arith}
 use borrow.Author.Needs.{needs}
@@ -31,7 +31,10 @@ in-precision-requires : tie.Need-in-precision-requires Inv-loop μ-loop
 in-precision-requires c κs = search needs
 
 returns : tie.Need-returns Inv-loop μ-loop
-returns c = let a = c .before .before .before .before .before .before .before .args in let v = c .before .before .before .variable-start in each-no (a .b .now) (λ (v : ℕ). inPrecision (typeAt (a .b .now) v)) (a .n) (c .before .before .before .before .before .loop .j) (v .result) (v .ensures .0) (omega arith) (cc (not-true (c .before .in-precision .result) (c .if1 .taken)))
+returns c =
+    let a = c .before .before .before .before .before .before .before .args in
+    let v = c .before .before .before .variable-start in
+    each-no (a .b .now) (λ (v : ℕ). inPrecision (typeAt (a .b .now) v)) (a .n) (c .before .before .before .before .before .loop .j) (v .result) (v .ensures .0) (omega arith) (ap inPrecision (sym (c .before .before .type-at .ensures)) ∙ sym (c .before .in-precision .ensures) ∙ not-true _ (c .if1 .taken))
 
 add-j : tie.Need-add-j Inv-loop μ-loop
 add-j c = search needs
@@ -40,10 +43,17 @@ loop-less : tie.Need-loop-less Inv-loop μ-loop
 loop-less c = search needs
 
 loop-again : tie.Need-loop-again Inv-loop μ-loop
-loop-again c = let a = c .before .before .before .before .before .before .before .args in let l = c .before .before .before .before .before .loop in let v = c .before .before .before .variable-start in (omega arith, each-more (a .b .now) (λ (v : ℕ). inPrecision (typeAt (a .b .now) v)) (l .j) (v .result) (v .ensures .0) (l .inv .1) (cc (not-false (c .before .in-precision .result) (c .if1 .left))))
+loop-again c =
+    let a = c .before .before .before .before .before .before .before .args in
+    let l = c .before .before .before .before .before .loop in
+    let v = c .before .before .before .variable-start in
+    (omega arith, each-more (a .b .now) (λ (v : ℕ). inPrecision (typeAt (a .b .now) v)) (l .j) (v .result) (v .ensures .0) (l .inv .1) (ap inPrecision (sym (c .before .before .type-at .ensures)) ∙ sym (c .before .in-precision .ensures) ∙ not-false _ (c .if1 .left)))
 
 returns-2 : tie.Need-returns-2 Inv-loop μ-loop
-returns-2 c = let a = c .before .before .before .args in let l = c .before .loop in every-end (a .n) (l .j) (AtEach (a .b .now) (λ (v : ℕ). inPrecision (typeAt (a .b .now) v))) (l .inv .0) (omega arith) (l .inv .1)
+returns-2 c =
+    let a = c .before .before .before .args in
+    let l = c .before .loop in
+    every-end (a .n) (l .j) (AtEach (a .b .now) (λ (v : ℕ). inPrecision (typeAt (a .b .now) v))) (l .inv .0) (omega arith) (l .inv .1)
 
 pub variables-precise-spec : {M : Type 1} → statement M
 variables-precise-spec =
