@@ -93,7 +93,7 @@ view-of-requires c κs =
     let body = c .before .before .before .before .before .before .before .before in
     let entry = body .before .before .before .before .before .before .before .before in
     let q = entry .before .before .before .before .before .before .before .pre in
-    (q .0, q .1 .known)
+    (q .0, omega (arith, q .1 .known))
 
 apply-requires : tie.Need-apply-requires
 apply-requires c κs =
