@@ -1,15 +1,14 @@
 -- What each kind of process asks for, from a mark at the cycle's start and a deed that can be done; and the model's firing by them.
 -- Assumes nothing.
-use mathlib.Core.Path.{_≡_, refl, sym, ap, _∙_, subst}
+use mathlib.Core.Path.{_≡_, refl, sym, _∙_, subst}
 use mathlib.Core.Bool.{true}
 use mathlib.Core.List.{List, []}
 use Prim.Native.Nat.{ℕ, _+_, _≤_, _<_}
 use native.Mathlib.Omega.{arith}
-use lib.ListN.{length}
-use Rattle.model.specs.Network.{Box, box, Net, Proc, State, wire, proc, own, insOf}
-use Rattle.model.specs.NetworkFile.{Index, boxAt}
+use Rattle.model.specs.Network.{box, Net, Proc, State, wire, proc, own}
+use Rattle.model.specs.NetworkFile.{boxAt}
 use Rattle.model.specs.States.{tokensFit}
-use Rattle.model.specs.Cycles.{Mark, fires, readsOf, look, deedOf, deed, act, ruleOf, fire, markOf, mark}
+use Rattle.model.specs.Cycles.{Mark, fires, deed, ruleOf, fire, markOf, mark}
 use Rattle.model.specs.Orders.{onWire}
 use Rattle.model.proofs.Lookup.{rules-length}
 use Rattle.model.proofs.Sound.{rule-chosen}

@@ -1,7 +1,7 @@
 -- The deed of a rule's body, worked out from what its box sees, is the model's.
 -- Assumes nothing.
-use mathlib.Core.Path.{_≡_, refl, sym, ap, _∙_, subst}
-use mathlib.Core.Bool.{true, false}
+use mathlib.Core.Path.{_≡_, sym, ap, _∙_, subst}
+use mathlib.Core.Bool.{false}
 use mathlib.Core.List.{List, map}
 use Prim.Native.Nat.{ℕ, _+_, _≤_, _<_, _^_}
 use native.Mathlib.Omega.{arith}
@@ -10,19 +10,19 @@ use lib.ListN.{length, getD}
 use lib.Signed.{mag}
 use Rattle.model.specs.Expressions.{Env}
 use Rattle.model.specs.Rules.{Rule, Pattern, Action, ruleRead, readRule, matchedTypes}
-use Rattle.model.specs.Network.{Box, Net, State, Proc, box, vars, proc, rule, own, varsOf, insOf, outsOf, shapeOf}
+use Rattle.model.specs.Network.{Box, Net, State, box, vars, rule, own, varsOf, insOf, outsOf, shapeOf}
 use Rattle.model.specs.NetworkFile.{Index, bodyAt, boxOf, wiresOf, shapeAt, boxAt, netOf}
 use Rattle.model.specs.Cycles.{Deed, reads, look, moves, envOf, result, newVars, readsOf, sentOf, keptOf, deedOf, act}
 use Rattle.shapes.specs.Shapes.{wiresIn, typesIn, shapeIn}
 use Rattle.shapes.specs.declared.Arity.{Arity}
 use Rattle.rules.specs.declared.Parts.{Parts}
 use Rattle.rules.specs.declared.Layout.the-variants as layout
-use Rattle.rules.specs.Bodies.{patternsFrom, actionsFrom, layoutOf}
+use Rattle.rules.specs.Bodies.{patternsFrom, layoutOf}
 use Rattle.rules.proofs.Laying.{Laid, laid}
 use Rattle.types.specs.Scopes.{scopeIn}
 use Rattle.typing.specs.Fits.{listRead, isRead, scopeRead, Agree, Kept}
 use Rattle.typing.proofs.Wholes.{ins-read}
-use Rattle.evaluation.specs.Envs.{envIn, EnvFits}
+use Rattle.evaluation.specs.Envs.{envIn}
 use Rattle.table.specs.declared.Counts.{Counts}
 use Rattle.table.specs.Table.{indexIn}
 use Rattle.lookup.specs.Entries.{ruleEntry, rulesIn}
@@ -41,7 +41,7 @@ use Rattle.marking.proofs.Trials as trials
 use Rattle.taking.specs.Taking.{fired}
 use Rattle.taking.specs.Reading.{readFrom}
 use Rattle.putting.specs.Putting.{sentFrom, newFrom}
-use Rattle.firing.specs.Firing.{deedAt, Sound, BoxReady, deedIn, Works}
+use Rattle.firing.specs.Firing.{deedAt, Sound, deedIn, Works}
 
 module _ (s t p ts b : List ℕ) (c : Counts) (h : Standing s t p ts b c) (k : ℕ) (l : k < c .boxes) (o : ℕ) (e : o ≡ getD t (64 + k) 0)
     (ins outs vs : List ℕ) (a : Arity) (d : shapeIn ins outs vs a ≡ shapeOf (wiresIn s t (c .wires)) (boxOf (bodyAt s o)))

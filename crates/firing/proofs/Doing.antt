@@ -1,13 +1,12 @@
 -- Tokens taken, then results put, then new values kept: that is the deed.
 -- Assumes nothing.
-use mathlib.Core.Path.{_≡_, refl, sym, ap, _∙_, subst}
+use mathlib.Core.Path.{_≡_, refl, ap}
 use mathlib.Core.List.{List, [], _++_}
-use Prim.Native.Nat.{ℕ, _+_, _-_, _≤_, _<_}
+use Prim.Native.Nat.{ℕ, _+_, _≤_, _<_}
 use native.Mathlib.Omega.{arith}
-use lib.IntN.{ℤ, pos}
+use lib.IntN.{ℤ}
 use lib.ListN.{length, getD, drop, length-append, length-drop}
-use Rattle.model.specs.declared.Token.{Token}
-use Rattle.model.specs.Network.{Box, Net, Own, vars, State, proc, queue, own, varsOf}
+use Rattle.model.specs.Network.{Box, Net, vars, State, proc, queue, own, varsOf}
 use Rattle.model.specs.Cycles.{Move, Deed, look, moves, takeAll, putAll, act}
 use Rattle.model.specs.NetworkFile.{boxAt}
 use Rattle.model.specs.Orders.{onWire}
@@ -19,10 +18,10 @@ use Rattle.table.specs.Table.{indexIn}
 use Rattle.places.specs.Standing.{netIn, Standing, stateOf}
 use Rattle.places.proofs.Standing.{state-good}
 use Rattle.moves.specs.Moves.{Became, withOwn}
-use Rattle.moves.proofs.Laws.{became-more, became-then}
+use Rattle.moves.proofs.Laws.{became-then}
 use Rattle.taking.specs.Reading.{readFrom, afterReading}
 use Rattle.putting.specs.Putting.{sentFrom, Places, afterPuts, newFrom, Keeps, afterKeeps}
-use Rattle.firing.specs.Firing.{Sound, deedIn, Works}
+use Rattle.firing.specs.Firing.{deedIn, Works}
 
 -- a wire that tokens were taken from holds no more than before
 fewer : (ms : List Move) (s : State) (w : ℕ) → w < length (s .queues) → length (queue (record { queues = takeAll ms (s .queues); owns = s .owns }) w) ≤ length (queue s w)
