@@ -32,7 +32,9 @@ def four(value):
 
 
 def show(t):
-    return f"{('bool', 'signed', 'unsigned', 'dc signed', 'dc unsigned')[t[0]]} {t[1]}" if t else "a number without a type"
+    if t is None:
+        return "a number without a type"
+    return "bool" if t == BOOL else f"{('', 'signed', 'unsigned', 'dc signed', 'dc unsigned')[t[0]]} {t[1]}"
 
 
 def carried(t):
@@ -102,7 +104,7 @@ class Line:
         return self.words.pop(0)
 
     def name(self):
-        if not re.match(r"[A-Za-z]", self.see()) or not self.words:
+        if not self.words or not re.match(r"[A-Za-z]", self.see()):
             raise Bad(f"a name is wanted, not `{self.see()}`")
         return self.need()
 
