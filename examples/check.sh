@@ -1,0 +1,40 @@
+#!/usr/bin/env bash
+# check.sh [RUN ARGUMENT...]
+#
+# Assembles every example into a temporary folder, compares the files with the stored network.bin and tokens.bin, runs
+# simulate.py on them and compares what it prints with expected.txt. With RUN, a run program, this is also started in each
+# folder (it reads network.bin and tokens.bin there) and what it prints is compared too.
+# The last line is `N examples, D different`; the answer is 0 exactly when D is 0.
+set -u
+case "${1-}" in
+  /*) ;;
+  */*) set -- "$PWD/$1" "${@:2}" ;;
+esac
+here=$(cd "$(dirname "$0")" && pwd)
+made=$(mktemp -d)
+trap 'rm -r "$made"' EXIT
+all=0
+different=0
+
+for text in "$here"/*/network.txt; do
+  folder=$(dirname "$text")
+  name=$(basename "$folder")
+  all=$((all + 1))
+  bad=
+  if python3 "$here/assemble.py" --into "$made" "$folder"; then
+    cmp -s "$made/$name/network.bin" "$folder/network.bin" || bad="$bad network.bin"
+    cmp -s "$made/$name/tokens.bin" "$folder/tokens.bin" || bad="$bad tokens.bin"
+    python3 "$here/simulate.py" "$made/$name" | cmp -s - "$folder/expected.txt" || bad="$bad simulate.py"
+    if [ $# -gt 0 ]; then
+      (cd "$made/$name" && "$@") | cmp -s - "$folder/expected.txt" || bad="$bad $1"
+    fi
+  else
+    bad=" text"
+  fi
+  if [ -n "$bad" ]; then
+    echo "$name:$bad"
+    different=$((different + 1))
+  fi
+done
+echo "$all examples, $different different"
+[ "$different" -eq 0 ]
