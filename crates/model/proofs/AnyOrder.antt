@@ -41,7 +41,7 @@ bits-down (zero ∷ ks) = omega (arith, bits-down ks, hit-same 0 0 refl)
 bits-down (suc k ∷ ks) = omega (arith, bits-down ks, pow-succ' 2 k, hit-other (suc k) 0 (λ e. omega (arith, e)))
 
 -- bit k tells whether k is named
-bit : (k : ℕ) (ks : List ℕ) → ((j : ℕ) → count j ks ≤ 1) → bits ks / 2 ^ k % 2 ≡ count k ks
+pub bit : (k : ℕ) (ks : List ℕ) → ((j : ℕ) → count j ks ≤ 1) → bits ks / 2 ^ k % 2 ≡ count k ks
 bit zero ks once = omega (arith, bits-down ks, once 0)
 bit (suc k) ks once =
     let half : bits ks / 2 ≡ bits (down ks) = omega (arith, bits-down ks, once 0) in

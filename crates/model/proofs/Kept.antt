@@ -88,9 +88,9 @@ pub record GoodState (n : Net) (s : State) : Type 0 where
   pub kept : (k : ℕ) → k < length (n .procs) → GoodOwn n (proc n k) (own s k)
 
 -- what is put is of the wire's type, and what the process keeps is its own
-record GoodDeed (n : Net) (p : Proc) (d : Deed) : Type 0 where
-  put : (w : ℕ) → tokensFit ((wire n w) .ty) (onWire w (d .put)) ≡ true
-  keeps : GoodOwn n p (d .keeps)
+pub record GoodDeed (n : Net) (p : Proc) (d : Deed) : Type 0 where
+  pub put : (w : ℕ) → tokensFit ((wire n w) .ty) (onWire w (d .put)) ≡ true
+  pub keeps : GoodOwn n p (d .keeps)
 
 -- ── what moves bring on a wire ───────────────────────────────────────────────────────────────
 
@@ -303,7 +303,7 @@ module _ (n : Net) (gn : GoodNet n) (s : State) (gs : GoodState n s) where
         };
       }
 
-  deed-good : (m : ℕ → Mark) (k r : ℕ) → k < length (n .procs) → m k ≡ fires r → mark n s k ≡ fires r → GoodDeed n (proc n k) (deed n m k s)
+  pub deed-good : (m : ℕ → Mark) (k r : ℕ) → k < length (n .procs) → m k ≡ fires r → mark n s k ≡ fires r → GoodDeed n (proc n k) (deed n m k s)
   deed-good m k r h q e = unfold deed mark ruleOf proc in rw q (deed-of (proc n k) (own s k) r (gn .procs k h) (gs .kept k h) e)
 
 -- ── a cycle in any order, and all cycles since the load ──────────────────────────────────────
@@ -359,7 +359,7 @@ module _ (n : Net) (gn : GoodNet n) (one : OneEach n) where
   reached-good (cycled {s = s} {ds = ds} ks x o) =
       let q = reached-sound n one x in
       let g = reached-good x in
-      all-good n (mark n s) one ks s ds (order-due n one s ds ks q o) q g
+      all-good n (mark n s) one ks s ds (order-due n one s ks (q .shape) (q .fits) o) q g
       (λ k h. (let f = named-fires n s ks o k h in (f .2, deed-good n gn s g (mark n s) k (f .0) (f .2) (f .1) (f .1))))
 
 -- ── values and tokens ────────────────────────────────────────────────────────────────────────

@@ -257,18 +257,18 @@ module _ (n : Net) (m : ℕ → Mark) (one : OneEach n) where
 
 -- ── the marked set ───────────────────────────────────────────────────────────────────────────
 
-marked-le : (m : ℕ → Mark) (ks : List ℕ) (j : ℕ) → count j (markedFrom m ks) ≤ count j ks
+pub marked-le : (m : ℕ → Mark) (ks : List ℕ) (j : ℕ) → count j (markedFrom m ks) ≤ count j ks
 unfolding markedFrom keepIf count
 marked-le m [] j = omega arith
 marked-le m (k ∷ ks) j = cases (marked (m k)) (λ e. rw e (omega (arith, marked-le m ks j))) (λ e. rw e (omega (arith, marked-le m ks j)))
 
-marked-in : (m : ℕ → Mark) (ks : List ℕ) (j : ℕ) → 1 ≤ count j (markedFrom m ks) → marked (m j) ≡ true
+pub marked-in : (m : ℕ → Mark) (ks : List ℕ) (j : ℕ) → 1 ≤ count j (markedFrom m ks) → marked (m j) ≡ true
 unfolding markedFrom keepIf count
 marked-in m [] j h = absurd (omega arith)
 marked-in m (k ∷ ks) j h =
     cases (marked (m k)) (λ e. same-or k j (λ q. rw q at e) (λ f. marked-in m ks j (omega (arith, rw e at h, hit-other k j f)))) (λ e. marked-in m ks j (rw e at h))
 
-upFrom-below : (i c j : ℕ) → j < i → count j (upFrom i c) ≡ 0
+pub upFrom-below : (i c j : ℕ) → j < i → count j (upFrom i c) ≡ 0
 unfolding upFrom count
 upFrom-below i zero j h = refl
 upFrom-below i (suc c) j h = omega (arith, upFrom-below (suc i) c j (omega arith), hit-other i j (λ e. omega (arith, e)))
@@ -279,7 +279,7 @@ upFrom-once i zero j = omega arith
 upFrom-once i (suc c) j =
     same-or i j (λ e. omega (arith, hit-same i j e, upFrom-below (suc i) c j (omega (arith, e)))) (λ f. omega (arith, hit-other i j f, upFrom-once (suc i) c j))
 
-fires-of : (x : Mark) → marked x ≡ true → (r : ℕ) × (x ≡ fires r)
+pub fires-of : (x : Mark) → marked x ≡ true → (r : ℕ) × (x ≡ fires r)
 unfolding marked
 fires-of quiet e = let z : _≡_ {A = ℕ} 0 1 = cc in absurd (omega arith)
 fires-of (fires r) e = (r, refl)
@@ -311,10 +311,11 @@ load-sound n = record {
 -- ── demand 3 ─────────────────────────────────────────────────────────────────────────────────
 
 module _ (n : Net) (one : OneEach n) where
-  pub order-due : (s : State) (ds : List Deed) (ks : List ℕ) → Sound n s ds → Order n s ks → Due n (mark n s) one ks s
-  order-due s ds ks q o = record {
+  -- in any state that fits the network, all that an order names are due
+  pub order-due : (s : State) (ks : List ℕ) → length (s .queues) ≡ length (n .wires) → ((w : ℕ) → length (queue s w) ≤ capacity n w) → Order n s ks → Due n (mark n s) one ks s
+  order-due s ks sh fit o = record {
     once = λ k. omega (arith, o .names k, marked-once n s k);
-    ready = λ k h. (let f = named-fires n s ks o k h in marked-ready n one s (q .shape) (q .fits) (mark n s) k (f .0) (f .1) (f .1));
+    ready = λ k h. (let f = named-fires n s ks o k h in marked-ready n one s sh fit (mark n s) k (f .0) (f .1) (f .1));
   }
 
   pub reached-sound : {s : State} {ds : List Deed} → Reached n s ds → Sound n s ds
@@ -322,17 +323,19 @@ module _ (n : Net) (one : OneEach n) where
   reached-sound at-load = load-sound n
   reached-sound (cycled {s = s} {ds = ds} ks x o) =
       let q = reached-sound x in
-      (part n (mark n s) one ks [] s ds (rw append-nil (order-due s ds ks q o)) q) .0
+      (part n (mark n s) one ks [] s ds (rw append-nil (order-due s ks (q .shape) (q .fits) o)) q) .0
 
   -- all orders end a cycle in the same state
   same-state : {s : State} {ds : List Deed} → Reached n s ds → (ks ls : List ℕ) → Order n s ks → Order n s ls → cycleIn n ks s ≡ cycleIn n ls s
-  same-state {s} {ds} x ks ls o p = unfold cycleIn in any-order n (mark n s) one ks ls s (λ k. o .names k ∙ sym (p .names k)) (order-due s ds ks (reached-sound x) o)
+  same-state {s} x ks ls o p = unfold cycleIn in
+      let q = reached-sound x in
+      any-order n (mark n s) one ks ls s (λ k. o .names k ∙ sym (p .names k)) (order-due s ks (q .shape) (q .fits) o)
 
   -- each single firing
   each-firing : {s : State} {ds : List Deed} → Reached n s ds → (done : List ℕ) (k : ℕ) (rest : List ℕ) → Order n s (done ++ k ∷ rest) → Firing n s ds done k
   each-firing {s} {ds} x done k rest o = unfold midway in
       let q = reached-sound x in
-      let d = order-due s ds (done ++ k ∷ rest) q o in
+      let d = order-due s (done ++ k ∷ rest) (q .shape) (q .fits) o in
       record {
         nonempty = (due-first n (mark n s) one k rest _ ((part n (mark n s) one done (k ∷ rest) s ds d q) .1)) .has;
         sound = (part n (mark n s) one (done ++ (k ∷ [])) rest s ds (rw append-assoc d) q) .0;
