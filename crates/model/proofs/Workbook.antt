@@ -43,6 +43,11 @@ none-for-one = 32 ∷ 0 ∷ 0 ∷ []
 unfoldable by-zero : List ℕ
 by-zero = 2 ∷ 0 ∷ 3 ∷ 0 ∷ 0 ∷ 0 ∷ 3 ∷ 0 ∷ 23 ∷ 20 ∷ 13 ∷ 0 ∷ 1 ∷ 2 ∷ 0 ∷ 0 ∷ 0 ∷ 1 ∷ 0 ∷ 1 ∷ 2 ∷ 0 ∷ 0 ∷ 0 ∷ 0 ∷ 0 ∷ 1 ∷ 2 ∷ 0 ∷ 0 ∷ 0 ∷ 0 ∷ []
 
+-- a box without rules, then two such boxes
+unfoldable two-by-zero : List ℕ
+unfolding by-zero
+two-by-zero = 2 ∷ 0 ∷ 3 ∷ 0 ∷ 0 ∷ 0 ∷ (by-zero ++ by-zero)
+
 -- ── what a row shows ─────────────────────────────────────────────────────────────────────────
 
 data Shown : Type 0 where
@@ -144,7 +149,7 @@ workbook = refl
 -- ── a smallest argument for each refusal number, with its place ──────────────────────────────
 
 unfoldable refusals : List Row
-unfolding inc through none-for-one by-zero start opened
+unfolding inc through none-for-one by-zero two-by-zero start opened
 refusals =
     -- 1, a field cut short
     record { shown = answers (checkCall (1 ∷ [])); stated = answers (refused 1 0 0) }
@@ -167,6 +172,8 @@ refusals =
     ∷ record { shown = answers ((cycleCall [] [] [] (0 ∷ [])) .answer); stated = answers (refused 8 0 0) }
     -- 9, a zero divisor in a guard
     ∷ record { shown = answers ((runCall by-zero [] [] 1000) .answer); stated = answers (refused 9 0 0) }
+    -- and where boxes 1 and 2 both meet one, the lowest of them is named
+    ∷ record { shown = answers ((runCall two-by-zero [] [] 1000) .answer); stated = answers (refused 9 1 0) }
     ∷ []
 
 refusal-examples : map (λ (r : Row). r .shown) refusals ≡ map (λ (r : Row). r .stated) refusals
