@@ -4,7 +4,7 @@
 use mathlib.Core.Path.{_≡_, refl, ap, _∙_, sym, ap₂}
 use mathlib.Core.Bool.{Bool, true, false, not, _&&_, _||_, cond}
 use mathlib.Core.Option.{Option, none, some}
-use mathlib.Core.List.{List, [], _∷_, _++_, map, zipWith, append-assoc}
+use mathlib.Core.List.{List, [], _∷_, _++_, map, zipWith, append-nil, append-assoc}
 use Prim.Native.Nat.{ℕ, zero, suc, _+_, _-_, _^_, _≤_, _<_, _*_, _/_, _%_}
 use native.Mathlib.Omega.{arith}
 use lib.Dec.{eqb, leb, ltb}
@@ -23,15 +23,14 @@ use Rattle.model.specs.Values.{noType, isPlain, isDc, wellSized, carried
 use Rattle.model.specs.Expressions.{Exp, Env, Typed, typed, ill, typeOf, precise, expressionLimits, depthOf, valueOf}
 use Rattle.model.specs.Rules.{Rule, Pattern, ignore, any, only, Action, nothing, bare, send, Shape, Fit, fits, fails, also, fitIf, tagFits, matchedType, matchedTypes, scopeOf, hasType, actionFits, actionsFit, actionLimits, ruleFits, sizeOfAction}
 use Rattle.model.specs.Network.{Variable, Box, Proc, box, input, output, Net, Own, vars, taken, got, State, noToken, nobody, wire, capacity, proc, rule, queue, own, varsOf, takenOf, gotOf, insOf, outsOf, wireTypes, variableTypes, shapeOf, fresh, loaded, noWire}
-use Rattle.model.specs.NetworkFile.{count}
 use Rattle.model.specs.States.{tokenFits, tokensFit, tokenAt, readTokens, tokenBytes, tokensBytes, roomBytes, wireBytes, valuesBytes, ownBytes, cat, segments, bytesOf, wireSize, ownSize, sum, wiresSize, allZero, roomFits, wireFits, queueIn, valuesIn, valuesFit, ownFits, ownIn, split, allTrue, wireParts, ownParts, stateFits, stateIn}
-use Rattle.model.specs.Cycles.{empty, oldest, full, reads, matches, readyIn, readyIns, readyVars, readyOuts, readyRule, Deed, seen, look, moves, matchedValue, envOf, orZero, result, newVar, newVars, readsOf, sentOf, present, keptOf, deedOf, act, Mark, fires, markOf, mark, deed, fire, fireAll, ruleOf, cycleIn}
+use Rattle.model.specs.Cycles.{empty, oldest, full, reads, matches, readyIn, readyIns, readyVars, readyOuts, readyRule, Deed, seen, look, moves, matchedValue, envOf, orZero, result, newVar, newVars, readsOf, sentOf, present, keptOf, deedOf, act, Mark, fires, markOf, mark, deed, fire, ruleOf, cycleIn}
 use Rattle.model.specs.Orders.{joined, onWire, Sound, Reached, at-load, cycled, Back, RoundTrip}
 use Rattle.model.proofs.Tests.{and-left, and-right, both, and₂, and₃, cases, same-or}
 use Rattle.model.proofs.Wrapping.{read-within, within-mag, pow-30, value-bytes}
 use Rattle.model.proofs.Typing.{Of, Named, GoodEnv, value-of, same-type}
-use Rattle.model.proofs.Order.{OneEach, Due, due-first, due-other, due-next, deed-frame, queue-fire, hit-same}
-use Rattle.model.proofs.Sound.{nonempty, rule-chosen, flag-fires, sound-next, order-due, named-fires, load-sound, load-empty, reached-sound}
+use Rattle.model.proofs.Order.{OneEach, Ready, queue-fire}
+use Rattle.model.proofs.Sound.{nonempty, rule-chosen, flag-fires, sound-next, part, order-due, named-fires, load-sound, load-empty, reached-sound}
 use Rattle.model.proofs.Decoded.{Each, GoodType, GoodVariable, GoodRule, GoodProc, GoodNet, noVariable, actionTag, getD-map-lt}
 use Rattle.model.proofs.Whole.{tokens-accepted}
 
@@ -200,9 +199,8 @@ module _ (n : Net) (gn : GoodNet n) (s : State) (gs : GoodState n s) where
       → isPlain (getD (matchedTypes (wireTypes (n .wires) ws) ps) i noType) ≡ true
       → Named (getD (matchedTypes (wireTypes (n .wires) ws) ps) i noType) (getD (map matchedValue (look s ws (map reads ps))) i (pos 0))
   unfolding matchedTypes wireTypes look readyIns
-  ins-matched [] [] a r i e = no-type e
+  ins-matched ws [] a r i e = no-type e
   ins-matched [] (p ∷ ps) a r i e = no-type e
-  ins-matched (w ∷ ws) [] a r i e = no-type e
   ins-matched (w ∷ ws) (p ∷ ps) a r zero e = unfold wire in first-matched w p (a 0 (omega arith)) (and-left (readyIn p (queue s w)) (readyIns s ws ps) r) e
   ins-matched (w ∷ ws) (p ∷ ps) a r (suc i) e = ins-matched ws ps (λ k l. a (suc k) (omega (arith, l))) (and-right (readyIn p (queue s w)) (readyIns s ws ps) r) i e
 
@@ -314,26 +312,22 @@ module _ (n : Net) (m : ℕ → Mark) (one : OneEach n) where
       same-or j k (λ e. rw e (rw (getD-set-same (s .owns) k ((deed n m k s) .keeps) (vars []) (omega (arith, h, g .owns))) (x .keeps)))
       (λ f. rw (getD-set-other (s .owns) k j ((deed n m k s) .keeps) (vars []) f) (g .kept j i))
 
-  all-good : (ks : List ℕ) (s : State) (ds : List Deed) → Due n m one ks s → Sound n s ds → GoodState n s
-      → ((k : ℕ) → 1 ≤ count k ks → (k < length (n .procs)) × GoodDeed n (proc n k) (deed n m k s)) → GoodState n (fireAll n m ks s)
-  unfolding fireAll count
-  all-good [] s ds d q g x = g
-  all-good (k ∷ ks) s ds d q g x =
-      let r = due-first n m one k ks s d in
-      let here = x k (omega (arith, hit-same k k refl)) in
-      let q′ = sound-next n m one k s ds r q in
-      let a = deed n m k s in
-      all-good ks (fire n m k s) (ds ++ (a ∷ [])) (due-next n m one k ks s d) q′ (record {
-        queues = q′ .shape;
-        owns = unfold fire act in length-set (s .owns) k (a .keeps) ∙ g .owns;
-        most = q′ .fits;
-        fit = λ w i. rw (queue-fire n m one k s r w) (fit-append ((wire n w) .ty) (drop (length (onWire w (a .took))) (queue s w)) (onWire w (a .put))
-            (fit-drop ((wire n w) .ty) (length (onWire w (a .took))) (queue s w) (g .fit w i)) (here .1 .put w));
-        kept = λ j i. own-fire k j s g (here .0) (here .1) i;
-      }) (λ j h.
-      let o = due-other n m one k ks s d j h in
-      let there = x j (omega (arith, h)) in
-      (there .0, rw (deed-frame n m one j k s (o .0) (o .1) r) (there .1)))
+  -- a firing whose deed is good leaves the state well laid out
+  good-next : (k : ℕ) (s : State) (ds : List Deed) → Ready n m k s → (k < length (n .procs)) × GoodDeed n (proc n k) (deed n m k s) → Sound n s ds × GoodState n s
+      → Sound n (fire n m k s) (ds ++ (deed n m k s ∷ [])) × GoodState n (fire n m k s)
+  good-next k s ds r x p =
+      let q = sound-next n m one k s ds r (p .0) in
+      let a = deed n m k s in (
+        q,
+        record {
+          queues = q .shape;
+          owns = unfold fire act in length-set (s .owns) k (a .keeps) ∙ p .1 .owns;
+          most = q .fits;
+          fit = λ w i. rw (queue-fire n m one k s r w) (fit-append ((wire n w) .ty) (drop (length (onWire w (a .took))) (queue s w)) (onWire w (a .put))
+              (fit-drop ((wire n w) .ty) (length (onWire w (a .took))) (queue s w) (p .1 .fit w i)) (x .1 .put w));
+          kept = λ j i. own-fire k j s (p .1) (x .0) (x .1) i;
+        },
+      )
 
 module _ (n : Net) (gn : GoodNet n) (one : OneEach n) where
   fresh-good : (p : Proc) → GoodProc n p → GoodOwn n p (fresh p)
@@ -359,8 +353,9 @@ module _ (n : Net) (gn : GoodNet n) (one : OneEach n) where
   reached-good (cycled {s = s} {ds = ds} ks x o) =
       let q = reached-sound n one x in
       let g = reached-good x in
-      all-good n (mark n s) one ks s ds (order-due n one s ks (q .shape) (q .fits) o) q g
-      (λ k h. (let f = named-fires n s ks o k h in (f .2, deed-good n gn s g (mark n s) k (f .0) (f .2) (f .1) (f .1))))
+      (part n (mark n s) one (λ k d. (k < length (n .procs)) × GoodDeed n (proc n k) d) (λ t es. Sound n t es × GoodState n t) (good-next n (mark n s) one)
+      ks [] s ds (rw append-nil (order-due n one s ks (q .shape) (q .fits) o))
+      (λ k h. (let f = named-fires n s ks o k (rw append-nil at h) in (f .2, deed-good n gn s g (mark n s) k (f .0) (f .2) (f .1) (f .1)))) (q, g)) .0 .1
 
 -- ── values and tokens ────────────────────────────────────────────────────────────────────────
 

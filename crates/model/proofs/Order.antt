@@ -7,7 +7,7 @@ use mathlib.Core.Option.{Option, none, some}
 use mathlib.Core.List.{List, [], _∷_, _++_, append-nil, append-assoc}
 use Prim.Native.Nat.{ℕ, zero, suc, _+_, _≤_, _<_}
 use native.Mathlib.Omega.{arith}
-use native.Mathlib.Nat.{add-comm}
+use native.Mathlib.Nat.{add-comm, le-trans}
 use lib.Dec.{eqb, ltb}
 use lib.ListN.{length, getD, set, drop, length-set, length-append, length-drop, List·getD-eq-default, drop-of-length-le}
 use lib.Seq.{drop-drop, drop-append-le, getD-set-same, getD-set-other, lt-length-set, set-comm, ext-getD}
@@ -44,21 +44,19 @@ unfolding count
 count-append w [] ys = omega arith
 count-append w (x ∷ xs) ys = omega (arith, count-append w xs ys)
 
--- the ports of one process, and of two, are among all ports
+-- the ports of two processes are among all ports, and so are the tokens that they move there
 module _ (f : Proc → List ℕ) (w : ℕ) (none′ : count w (f nobody) ≡ 0) where
-  port-one : (ps : List Proc) (j : ℕ) → count w (f (getD ps j nobody)) ≤ count w (ports f ps)
-  unfolding ports
-  port-one [] j = omega arith
-  port-one (p ∷ ps) zero = omega (arith, count-append w (f p) (ports f ps))
-  port-one (p ∷ ps) (suc j) = omega (arith, count-append w (f p) (ports f ps), port-one ps j)
-
   port-two : (ps : List Proc) (j k : ℕ) → j ≢ k → count w (f (getD ps j nobody)) + count w (f (getD ps k nobody)) ≤ count w (ports f ps)
   unfolding ports
   port-two [] j k h = omega arith
   port-two (p ∷ ps) zero zero h = absurd (h refl)
-  port-two (p ∷ ps) zero (suc k) h = omega (arith, count-append w (f p) (ports f ps), port-one ps k)
-  port-two (p ∷ ps) (suc j) zero h = omega (arith, count-append w (f p) (ports f ps), port-one ps j)
+  port-two (p ∷ ps) zero (suc k) h = omega (arith, count-append w (f p) (ports f ps), port-two ps k (suc k) (λ e. omega (arith, e)))
+  port-two (p ∷ ps) (suc j) zero h = omega (arith, count-append w (f p) (ports f ps), port-two ps j (suc j) (λ e. omega (arith, e)))
   port-two (p ∷ ps) (suc j) (suc k) h = omega (arith, count-append w (f p) (ports f ps), port-two ps j k (λ e. h (ap suc e)))
+
+  moves-two : (ps : List Proc) (j k : ℕ) → j ≢ k → (xs ys : List (Option Token))
+      → length (onWire w (moves (f (getD ps j nobody)) xs)) + length (onWire w (moves (f (getD ps k nobody)) ys)) ≤ count w (ports f ps)
+  moves-two ps j k h xs ys = omega (arith, port-two ps j k h, moves-count (f (getD ps j nobody)) xs w, moves-count (f (getD ps k nobody)) ys w)
 
 -- ── one wire after a deed ────────────────────────────────────────────────────────────────────
 
@@ -171,24 +169,14 @@ no-capacity : (n : Net) (w : ℕ) → length (n .wires) ≤ w → capacity n w �
 no-capacity n w h = unfold capacity wire noWire in ap (λ (x : Wire). x .capacity) (List·getD-eq-default (n .wires) noWire h)
 
 module _ (n : Net) (m : ℕ → Mark) (one : OneEach n) where
-  -- what a firing takes and puts on a wire is not more than its ports there
-  took-count : (k : ℕ) (s : State) (w : ℕ) → length (onWire w ((deed n m k s) .took)) ≤ count w (insOf (getD (n .procs) k nobody))
-  took-count k s w = unfold deed deedOf proc in moves-count (insOf (proc n k)) _ w
+  -- two firings take one token at most from a wire, and put one at most on it; so does one firing
+  moved-two : (j k : ℕ) (s : State) (w : ℕ) → j ≢ k → (length (onWire w ((deed n m j s) .took)) + length (onWire w ((deed n m k s) .took)) ≤ 1)
+      × (length (onWire w ((deed n m j s) .put)) + length (onWire w ((deed n m k s) .put)) ≤ 1)
+  moved-two j k s w ne = unfold deed deedOf proc insOf outsOf nobody count in
+      (le-trans (moves-two insOf w refl (n .procs) j k ne _ _) (one .readers w), le-trans (moves-two outsOf w refl (n .procs) j k ne _ _) (one .writers w))
 
-  put-count : (k : ℕ) (s : State) (w : ℕ) → length (onWire w ((deed n m k s) .put)) ≤ count w (outsOf (getD (n .procs) k nobody))
-  put-count k s w = unfold deed deedOf proc in moves-count (outsOf (proc n k)) _ w
-
-  pub took-one : (k : ℕ) (s : State) (w : ℕ) → length (onWire w ((deed n m k s) .took)) ≤ 1
-  took-one k s w = omega (arith, one .readers w, port-one insOf w (unfold insOf nobody count in refl) (n .procs) k, took-count k s w)
-
-  pub put-one : (k : ℕ) (s : State) (w : ℕ) → length (onWire w ((deed n m k s) .put)) ≤ 1
-  put-one k s w = omega (arith, one .writers w, port-one outsOf w (unfold outsOf nobody count in refl) (n .procs) k, put-count k s w)
-
-  took-two : (j k : ℕ) (s : State) (w : ℕ) → j ≢ k → length (onWire w ((deed n m j s) .took)) + length (onWire w ((deed n m k s) .took)) ≤ 1
-  took-two j k s w ne = omega (arith, one .readers w, port-two insOf w (unfold insOf nobody count in refl) (n .procs) j k ne, took-count j s w, took-count k s w)
-
-  put-two : (j k : ℕ) (s : State) (w : ℕ) → j ≢ k → length (onWire w ((deed n m j s) .put)) + length (onWire w ((deed n m k s) .put)) ≤ 1
-  put-two j k s w ne = omega (arith, one .writers w, port-two outsOf w (unfold outsOf nobody count in refl) (n .procs) j k ne, put-count j s w, put-count k s w)
+  pub moved-one : (k : ℕ) (s : State) (w : ℕ) → (length (onWire w ((deed n m k s) .took)) ≤ 1) × (length (onWire w ((deed n m k s) .put)) ≤ 1)
+  moved-one k s w = let h = moved-two k (suc k) s w (λ e. omega (arith, e)) in (omega (arith, h .0), omega (arith, h .1))
 
   -- a wire's queue after a firing, declared or not
   pub queue-fire : (k : ℕ) (s : State) → Ready n m k s → (w : ℕ)
@@ -210,7 +198,7 @@ module _ (n : Net) (m : ℕ → Mark) (one : OneEach n) where
   oldest-frame : (j k : ℕ) (s : State) → j ≢ k → Ready n m j s → Ready n m k s → (w : ℕ) → 1 ≤ length (onWire w ((deed n m j s) .took))
       → oldest (queue (fire n m k s) w) ≡ oldest (queue s w)
   oldest-frame j k s ne r q w h =
-      let z : length (onWire w ((deed n m k s) .took)) ≡ 0 = omega (arith, took-two j k s w ne) in
+      let z : length (onWire w ((deed n m k s) .took)) ≡ 0 = omega (arith, (moved-two j k s w ne) .0) in
       ap oldest (queue-fire k s q w) ∙ rw z (oldest-append (queue s w) (onWire w ((deed n m k s) .put)) (omega (arith, r .has w)))
 
   pub deed-frame : (j k : ℕ) (s : State) → j ≢ k → Ready n m j s → Ready n m k s → deed n m j (fire n m k s) ≡ deed n m j s
@@ -222,14 +210,14 @@ module _ (n : Net) (m : ℕ → Mark) (one : OneEach n) where
   ready-frame : (j k : ℕ) (s : State) → j ≢ k → Ready n m j s → Ready n m k s → Ready n m j (fire n m k s)
   ready-frame j k s ne r q = record {
     shape = unfold fire in length-act k (deed n m k s) s ∙ q .shape;
-    has = λ w. rw (deed-frame j k s ne r q) (omega (arith, length-fire k s q w, r .has w, q .has w, took-two j k s w ne));
-    room = λ w. rw (deed-frame j k s ne r q) (omega (arith, length-fire k s q w, r .room w, q .room w, put-two j k s w ne));
+    has = λ w. rw (deed-frame j k s ne r q) (omega (arith, length-fire k s q w, r .has w, q .has w, (moved-two j k s w ne) .0));
+    room = λ w. rw (deed-frame j k s ne r q) (omega (arith, length-fire k s q w, r .room w, q .room w, (moved-two j k s w ne) .1));
   }
 
   fire-commute : (j k : ℕ) (s : State) → j ≢ k → Ready n m j s → Ready n m k s → fire n m j (fire n m k s) ≡ fire n m k (fire n m j s)
   fire-commute j k s ne r q = unfold fire in
       ap (λ (d : Deed). act j d (fire n m k s)) (deed-frame j k s ne r q)
-      ∙ act-commute j k (deed n m j s) (deed n m k s) s ne (λ w. omega (arith, r .has w, q .has w, took-two j k s w ne)) (λ w. put-two j k s w ne)
+      ∙ act-commute j k (deed n m j s) (deed n m k s) s ne (λ w. omega (arith, r .has w, q .has w, (moved-two j k s w ne) .0)) (λ w. (moved-two j k s w ne) .1)
       ∙ sym (ap (λ (d : Deed). act k d (fire n m j s)) (deed-frame k j s (λ p. ne (sym p)) q r))
 
 -- ── any two orders ───────────────────────────────────────────────────────────────────────────
