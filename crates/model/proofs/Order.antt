@@ -233,12 +233,16 @@ remove-here j k js e = unfold remove in rw (eq-eqb j k e)
 pub remove-past : (j k : ℕ) (js : List ℕ) → j ≢ k → remove k (j ∷ js) ≡ j ∷ remove k js
 remove-past j k js f = unfold remove in rw (ne-eqb j k f)
 
-pub count-remove : (k : ℕ) (ks : List ℕ) → 1 ≤ count k ks → (i : ℕ) → count i ks ≡ hit (eqb k i) + count i (remove k ks)
+-- a sum over a list, with the first k taken out: how often i is named, for one
+pub sum-remove : (f : List ℕ → ℕ) (g : ℕ → ℕ) → ((j : ℕ) (js : List ℕ) → f (j ∷ js) ≡ g j + f js) → (k : ℕ) (ks : List ℕ) → 1 ≤ count k ks → f ks ≡ g k + f (remove k ks)
 unfolding count
-count-remove k [] h i = absurd (omega arith)
-count-remove k (j ∷ js) h i =
-    same-or j k (λ e. rw (remove-here j k js e) (ap (λ (x : ℕ). hit (eqb x i) + count i js) e))
-    (λ f. rw (remove-past j k js f) (omega (arith, count-remove k js (omega (arith, h, hit-other j k f)) i)))
+sum-remove f g more k [] h = absurd (omega arith)
+sum-remove f g more k (j ∷ js) h =
+    same-or j k (λ e. rw (remove-here j k js e) (more j js ∙ ap (λ (x : ℕ). g x + f js) e))
+    (λ ne. rw (remove-past j k js ne) (omega (arith, more j js, more j (remove k js), sum-remove f g more k js (omega (arith, h, hit-other j k ne)))))
+
+pub count-remove : (k : ℕ) (ks : List ℕ) → 1 ≤ count k ks → (i : ℕ) → count i ks ≡ hit (eqb k i) + count i (remove k ks)
+count-remove k ks h i = unfold count in sum-remove (count i) (λ j. hit (eqb j i)) (λ j js. refl) k ks h
 
 module _ (n : Net) (m : ℕ → Mark) (one : OneEach n) where
   -- all of the list are ready, and none stands in it twice

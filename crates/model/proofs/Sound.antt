@@ -8,18 +8,16 @@ use mathlib.Core.List.{List, [], _∷_, map, _++_, append-nil, append-assoc}
 use Prim.Native.Nat.{ℕ, zero, suc, _+_, _≤_, _<_}
 use native.Mathlib.Omega.{arith}
 use lib.Dec.{eqb, ltb}
-use lib.IntN.{ℤ}
 use lib.ListN.{length, getD, drop, length-map, List·getD-map}
 use borrow.Author.Tests.{leb-false, eq-eqb, ne-eqb}
 use Rattle.model.specs.declared.Token.{Token}
 use Rattle.model.specs.declared.Outcome.{Outcome}
 use Rattle.model.specs.declared.Outcome.the-variants.{Value, Fault}
-use Rattle.model.specs.Values.{isTrue}
 use Rattle.model.specs.Expressions.{Env, valueOf}
-use Rattle.model.specs.Rules.{Rule, Pattern, Action, nothing, bare, send}
+use Rattle.model.specs.Rules.{Rule, Pattern, ignore, any, only, Action, nothing, bare, send}
 use Rattle.model.specs.Network.{Proc, box, input, output, Box, Net, State, Own, queue, own, proc, capacity, rule, varsOf, takenOf, gotOf, insOf, outsOf, noToken, noWire, loaded, noTokens}
 use Rattle.model.specs.NetworkFile.{count}
-use Rattle.model.specs.Cycles.{Mark, quiet, fires, faulty, upFrom, moves, look, seen, reads, writes, matches, oldest, empty, full, readyIn, readyIns, readyOuts, readyVars, readyRule, result, deed, deedOf, envOf, ruleOf, readsOf, sentOf, faultless, actionsOf, chosen, attempt, guarded, tryRule, orElse, first, tried, flag, markOf, mark, Deed, fire, fireAll, cycleIn, marked, keepIf, markedFrom, markedOf, processes}
+use Rattle.model.specs.Cycles.{Mark, quiet, fires, faulty, upFrom, moves, look, seen, reads, writes, oldest, empty, full, readyIn, readyIns, readyOuts, readyVars, readyRule, result, deed, deedOf, envOf, ruleOf, readsOf, sentOf, faultless, actionsOf, chosen, attempt, guarded, tryRule, orElse, first, tried, flag, markOf, mark, Deed, fire, fireAll, cycleIn, marked, keepIf, markedFrom, markedOf, processes}
 use Rattle.model.specs.Orders.{onWire, joined, deeds, putOn, takenFrom, Order, Reached, at-load, cycled, Sound, midway, Firing, AnyOrder}
 use Rattle.model.specs.States.{bytesOf}
 use Rattle.model.proofs.Tests.{and-left, and-right, and₂, and₃, not-true, same-or, cases}
@@ -46,19 +44,17 @@ from-port P v w ws none ts f g h = g h
 from-port P v w ws (some t) ts f g h =
     same-or v w (λ e. subst P e (f (λ q. (let z : _≡_ {A = ℕ} 0 1 = cc in omega arith)))) (λ ne. g (omega (arith, h, length-joined (eqb v w) t (onWire w (moves ws ts)), hit-other v w ne)))
 
-seen-reads : (b : Bool) (q : List Token) → seen b q ≢ none → b ≡ true
-unfolding seen
-seen-reads true q h = refl
-seen-reads false q h = absurd (h refl)
-
 result-writes : (en : Env) (a : Action) → result en a ≢ none → writes a ≡ true
 unfolding result writes
 result-writes en nothing h = absurd (h refl)
 result-writes en (bare t) h = refl
 result-writes en (send t e) h = refl
 
-read-nonempty : (p : Pattern) (q : List Token) → readyIn p q ≡ true → reads p ≡ true → 1 ≤ length q
-read-nonempty p q e r = unfold readyIn in nonempty q (and-left (not (empty q)) (matches p (oldest q)) (rw r at e))
+read-nonempty : (p : Pattern) (q : List Token) → readyIn p q ≡ true → seen (reads p) q ≢ none → 1 ≤ length q
+unfolding readyIn reads seen
+read-nonempty ignore q e h = absurd (h refl)
+read-nonempty (any t) q e h = nonempty q (and-left (not (empty q)) _ e)
+read-nonempty (only t z) q e h = nonempty q (and-left (not (empty q)) _ e)
 
 -- a token on wire w, and a place on it
 abbrev Holds : State → ℕ → Type 0
@@ -73,7 +69,7 @@ ins-ready s [] ps w e = unfold moves in no-move w
 ins-ready s (v ∷ ws) [] w e = unfold moves in no-move w
 ins-ready s (v ∷ ws) (p ∷ ps) w e =
     let a = and₂ (readyIn p (queue s v)) (readyIns s ws ps) e in
-    from-port (Holds s) v w ws _ _ (λ x. read-nonempty p (queue s v) (a .0) (seen-reads (reads p) (queue s v) x)) (ins-ready s ws ps w (a .1))
+    from-port (Holds s) v w ws _ _ (read-nonempty p (queue s v) (a .0)) (ins-ready s ws ps w (a .1))
 
 outs-ready : (n : Net) (s : State) (en : Env) (ws : List ℕ) (acts : List Action) (w : ℕ) → readyOuts n s ws acts ≡ true → 1 ≤ length (onWire w (moves ws (map (result en) acts))) → Open n s w
 unfolding readyOuts
@@ -105,16 +101,16 @@ actions-fire en (send t x ∷ as′) m r e = actions-fire en as′ m r (faultles
 guarded-fires : (en : Env) (u : Rule) (k : ℕ) (o : Outcome) (r : ℕ) → guarded en u k o ≡ fires r → k ≡ r
 unfolding guarded chosen
 guarded-fires en u k (Value t z) r e =
-    let h : fires k ≡ fires r = actions-fire en (u .sets) (fires k) r (actions-fire en (u .outs) _ r ((attempt-fires (isTrue z) (chosen en u k) r e) .1)) in
+    let h : fires k ≡ fires r = actions-fire en (u .sets) (fires k) r (actions-fire en (u .outs) _ r ((attempt-fires _ (chosen en u k) r e) .1)) in
     cc
 guarded-fires en u k (Fault x) r e = let z : _≡_ {A = ℕ} 0 1 = cc in absurd (omega arith)
 
 -- a rule that fires is the one that was tried, and is ready
-try-fires : (n : Net) (s : State) (b : Box) (vs : List ℤ) (k r : ℕ) → tryRule n s b vs k ≡ fires r → (k ≡ r) × (readyRule n s b (rule b k) vs ≡ true)
-try-fires n s b vs k r e = unfold tryRule in
+try-fires : (n : Net) (s : State) (b : Box) (o : Own) (k r : ℕ) → tryRule n s b (varsOf o) k ≡ fires r → (k ≡ r) × (readyRule n s b (rule b k) (varsOf o) ≡ true)
+try-fires n s b o k r e = unfold tryRule in
     let u = rule b k in
-    let en = envOf n b u (look s (b .ins) (map reads (u .ins))) vs in
-    let h = attempt-fires (readyRule n s b u vs) (guarded en u k (valueOf en (u .guard))) r e in
+    let en = envOf n b u (look s (b .ins) (map reads (u .ins))) (varsOf o) in
+    let h = attempt-fires (readyRule n s b u (varsOf o)) (guarded en u k (valueOf en (u .guard))) r e in
     (guarded-fires en u k (valueOf en (u .guard)) r (h .1), h .0)
 
 orElse-fires : {A : Type 0} (x y : Mark) (r : ℕ) → orElse x y ≡ fires r → (x ≡ fires r → A) → (y ≡ fires r → A) → A
@@ -139,7 +135,7 @@ upFrom-in i (suc c) j h = same-or i j (λ e. omega (arith, e)) (λ f. omega (ari
 pub rule-chosen : (n : Net) (s : State) (b : Box) (o : Own) (r : ℕ) → markOf n s (box b) o ≡ fires r → (r < length (b .rules)) × (readyRule n s b (rule b r) (varsOf o) ≡ true)
 rule-chosen n s b o r e = unfold markOf tried in
     let f = first-in (tryRule n s b (varsOf o)) (upFrom 0 (length (b .rules))) r e in
-    let q = try-fires n s b (varsOf o) (f .0) r (f .2) in
+    let q = try-fires n s b o (f .0) r (f .2) in
     (omega (arith, q .0, upFrom-in 0 (length (b .rules)) (f .0) (f .1)), rw (q .0) at (q .1))
 
 pub flag-fires : (b : Bool) (r : ℕ) → flag b ≡ fires r → b ≡ true

@@ -272,10 +272,9 @@ module _ (s : List ℕ) (x : Index) (c : Checked s x) (tokens : List (List Token
   pub ports-all : (w : ℕ) → w < length (m .wires) → portsFit (m .procs) w ≡ true
   unfolding portsFit oddWire
   ports-all w h =
-      let l : w < length (x .wires) = omega (arith, wires-length s x tokens) in
-      let e : length ((netOf s x []) .wires) ≡ length (x .wires) = wires-length s x [] in
+      let e = wires-length s x [] in
       rw (ports-same insOf s x tokens (λ v a b. unfold insOf in refl), ports-same outsOf s x tokens (λ v a b. unfold outsOf in refl))
-      (lowest-all (portsFit ((netOf s x []) .procs)) 0 (length ((netOf s x []) .wires)) (omega (arith, c .wired, e)) w (omega arith) (omega (arith, e)))
+      (lowest-all (portsFit ((netOf s x []) .procs)) 0 (length ((netOf s x []) .wires)) (omega (arith, c .wired, e)) w (omega arith) (omega (arith, h, e, wires-length s x tokens)))
 
   -- the tokens that a token file holds for it fit
   types-at : (i : ℕ) → i < length (x .inputs) → getD (inputTypes (netOf s x []) ((netOf s x []) .procs)) i noType ≡ (wire m (inputWire s x i)) .ty
