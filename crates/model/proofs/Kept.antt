@@ -387,8 +387,7 @@ zeros zero = refl
 zeros (suc k) = zeros k
 
 pub length-room : (room : ℕ) (ts : List Token) → length ts ≤ room → length (roomBytes room ts) ≡ 5 * room
-unfolding roomBytes
-length-room room ts h = length-append (tokensBytes ts) (replicate ((room - length ts) * 5) 0) ∙ omega (arith, length-tokens ts, length-replicate {A = ℕ} ((room - length ts) * 5) 0)
+length-room room ts h = unfold roomBytes in length-append (tokensBytes ts) (replicate ((room - length ts) * 5) 0) ∙ omega (arith, length-tokens ts, length-replicate {A = ℕ} ((room - length ts) * 5) 0)
 
 -- its length, the tokens back, and that it fits
 room-laid : (t : Ty) → GoodType t → (room : ℕ) (q : List Token) → tokensFit t q ≡ true → length q ≤ room

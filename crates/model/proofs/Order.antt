@@ -60,34 +60,34 @@ module _ (f : Proc → List ℕ) (w : ℕ) (none′ : count w (f nobody) ≡ 0) 
 
 -- ── one wire after a deed ────────────────────────────────────────────────────────────────────
 
-length-takeAll : (ms : List Move) (qs : List (List Token)) → length (takeAll ms qs) ≡ length qs
-unfolding takeAll
-length-takeAll [] qs = refl
-length-takeAll (m ∷ ms) qs = length-takeAll ms (set qs (m .wire) (drop 1 (getD qs (m .wire) []))) ∙ length-set qs (m .wire) _
+-- moves that each change the queue of their wire by f: one wire after them all
+module _ (all : List Move → List (List Token) → List (List Token)) (f : Token → List Token → List Token) (none′ : (qs : List (List Token)) → all [] qs ≡ qs)
+    (more : (m : Move) (ms : List Move) (qs : List (List Token)) → all (m ∷ ms) qs ≡ all ms (set qs (m .wire) (f (m .token) (getD qs (m .wire) [])))) where
+  length-all : (ms : List Move) (qs : List (List Token)) → length (all ms qs) ≡ length qs
+  length-all [] qs = ap length (none′ qs)
+  length-all (m ∷ ms) qs = ap length (more m ms qs) ∙ length-all ms _ ∙ length-set qs (m .wire) _
 
-length-putAll : (ms : List Move) (qs : List (List Token)) → length (putAll ms qs) ≡ length qs
-unfolding putAll
-length-putAll [] qs = refl
-length-putAll (m ∷ ms) qs = length-putAll ms (set qs (m .wire) (getD qs (m .wire) [] ++ (m .token ∷ []))) ∙ length-set qs (m .wire) _
+  all-at : (g : List Token → List Token → List Token) → ((q : List Token) → g [] q ≡ q) → ((t : Token) (ts q : List Token) → g ts (f t q) ≡ g (t ∷ ts) q)
+      → (ms : List Move) (qs : List (List Token)) (w : ℕ) → w < length qs → getD (all ms qs) w [] ≡ g (onWire w ms) (getD qs w [])
+  unfolding onWire joined
+  all-at g z c [] qs w h = rw (none′ qs) (sym (z (getD qs w [])))
+  all-at g z c (m ∷ ms) qs w h =
+      let x = f (m .token) (getD qs (m .wire) []) in
+      rw (more m ms qs) (all-at g z c ms (set qs (m .wire) x) w (lt-length-set qs (m .wire) x h)
+      ∙ same-or (m .wire) w (λ e. rw (e, eq-eqb w w refl, getD-set-same qs w (f (m .token) (getD qs w [])) [] h) (c (m .token) (onWire w ms) (getD qs w [])))
+      (λ ne. rw (ne-eqb (m .wire) w ne, getD-set-other qs (m .wire) w x [] (λ p. ne (sym p)))))
+
+length-takeAll : (ms : List Move) (qs : List (List Token)) → length (takeAll ms qs) ≡ length qs
+length-takeAll = unfold takeAll in length-all takeAll (λ t q. drop 1 q) (λ qs. refl) (λ m ms qs. refl)
 
 takeAll-at : (ms : List Move) (qs : List (List Token)) (w : ℕ) → w < length qs → getD (takeAll ms qs) w [] ≡ drop (length (onWire w ms)) (getD qs w [])
-unfolding takeAll onWire joined
-takeAll-at [] qs w h = refl
-takeAll-at (m ∷ ms) qs w h =
-    let x = drop 1 (getD qs (m .wire) []) in
-    let e : 1 + length (onWire w ms) ≡ suc (length (onWire w ms)) = omega arith in
-    takeAll-at ms (set qs (m .wire) x) w (lt-length-set qs (m .wire) x h)
-    ∙ same-or (m .wire) w (λ q. rw (q, eq-eqb w w refl, getD-set-same qs w (drop 1 (getD qs w [])) [] h) (rw e at (drop-drop (length (onWire w ms)) 1 (getD qs w []))))
-    (λ f. rw (ne-eqb (m .wire) w f, getD-set-other qs (m .wire) w x [] (λ p. f (sym p))))
+takeAll-at = unfold takeAll in
+    all-at takeAll (λ t q. drop 1 q) (λ qs. refl) (λ m ms qs. refl) (λ ts q. drop (length ts) q) (λ q. refl)
+    (λ t ts q. (let e : 1 + length ts ≡ suc (length ts) = omega arith in rw e at (drop-drop (length ts) 1 q)))
 
 pub putAll-at : (ms : List Move) (qs : List (List Token)) (w : ℕ) → w < length qs → getD (putAll ms qs) w [] ≡ getD qs w [] ++ onWire w ms
-unfolding putAll onWire joined
-putAll-at [] qs w h = sym (append-nil (getD qs w []))
-putAll-at (m ∷ ms) qs w h =
-    let x = getD qs (m .wire) [] ++ (m .token ∷ []) in
-    putAll-at ms (set qs (m .wire) x) w (lt-length-set qs (m .wire) x h)
-    ∙ same-or (m .wire) w (λ e. rw (e, eq-eqb w w refl, getD-set-same qs w (getD qs w [] ++ (m .token ∷ [])) [] h) (append-assoc (getD qs w []) (m .token ∷ []) (onWire w ms)))
-    (λ f. rw (ne-eqb (m .wire) w f, getD-set-other qs (m .wire) w x [] (λ p. f (sym p))))
+putAll-at = unfold putAll in
+    all-at putAll (λ t q. q ++ (t ∷ [])) (λ qs. refl) (λ m ms qs. refl) (λ ts q. q ++ ts) append-nil (λ t ts q. append-assoc q (t ∷ []) ts)
 
 pub queue-act : (k : ℕ) (d : Deed) (s : State) (w : ℕ) → w < length (s .queues)
     → queue (act k d s) w ≡ drop (length (onWire w (d .took))) (queue s w) ++ onWire w (d .put)
@@ -96,7 +96,7 @@ queue-act k d s w h = unfold queue act in
     ∙ ap (λ (q : List Token). q ++ onWire w (d .put)) (takeAll-at (d .took) (s .queues) w h)
 
 pub length-act : (k : ℕ) (d : Deed) (s : State) → length ((act k d s) .queues) ≡ length (s .queues)
-length-act k d s = unfold act in length-putAll (d .put) (takeAll (d .took) (s .queues)) ∙ length-takeAll (d .took) (s .queues)
+length-act k d s = unfold act putAll in length-all putAll (λ t q. q ++ (t ∷ [])) (λ qs. refl) (λ m ms qs. refl) (d .put) (takeAll (d .took) (s .queues)) ∙ length-takeAll (d .took) (s .queues)
 
 queue-past : (s : State) (w : ℕ) → length (s .queues) ≤ w → queue s w ≡ []
 queue-past s w h = unfold queue in List·getD-eq-default (s .queues) [] h
@@ -132,25 +132,6 @@ drop-both a b q x h = drop-append-le b (drop a q) x (simp length-drop (omega ari
 wire-commute : (a b : ℕ) (q x y : List Token) → a + b ≤ length q → length x + length y ≤ 1 → drop b (drop a q ++ x) ++ y ≡ drop a (drop b q ++ y) ++ x
 wire-commute a b q x y h g =
     rw (drop-both a b q x h, drop-both b a q y (omega arith), add-comm a b, append-assoc (drop (b + a) q) x y, append-assoc (drop (b + a) q) y x, swap-short x y g)
-
-module _ (j k : ℕ) (d e : Deed) (s : State) (ne : j ≢ k)
-    (hs : (w : ℕ) → length (onWire w (d .took)) + length (onWire w (e .took)) ≤ length (queue s w))
-    (ps : (w : ℕ) → length (onWire w (d .put)) + length (onWire w (e .put)) ≤ 1) where
-  commute-at : (w : ℕ) → w < length (s .queues) → queue (act j d (act k e s)) w ≡ queue (act k e (act j d s)) w
-  commute-at w h =
-      let hk : w < length ((act k e s) .queues) = rw length-act h in
-      let hj : w < length ((act j d s) .queues) = rw length-act h in
-      rw (queue-act j d (act k e s) w hk, queue-act k e (act j d s) w hj, queue-act k e s w h, queue-act j d s w h)
-      (wire-commute (length (onWire w (e .took))) (length (onWire w (d .took))) (queue s w) (onWire w (e .put)) (onWire w (d .put)) (omega (arith, hs w)) (omega (arith, ps w)))
-
-  commute-queues : (act j d (act k e s)) .queues ≡ (act k e (act j d s)) .queues
-  commute-queues = unfold queue in ext-getD [] _ _ (simp length-act) (λ w h. commute-at w (simp length-act at h))
-
-  commute-owns : (act j d (act k e s)) .owns ≡ (act k e (act j d s)) .owns
-  commute-owns = unfold act in set-comm (s .owns) k j (e .keeps) (d .keeps) (λ p. ne (sym p))
-
-  act-commute : act j d (act k e s) ≡ act k e (act j d s)
-  act-commute = λ i. record { queues = commute-queues i; owns = commute-owns i }
 
 -- ── two firings of one cycle ─────────────────────────────────────────────────────────────────
 
@@ -214,11 +195,26 @@ module _ (n : Net) (m : ℕ → Mark) (one : OneEach n) where
     room = λ w. rw (deed-frame j k s ne r q) (omega (arith, length-fire k s q w, r .room w, q .room w, (moved-two j k s w ne) .1));
   }
 
-  fire-commute : (j k : ℕ) (s : State) → j ≢ k → Ready n m j s → Ready n m k s → fire n m j (fire n m k s) ≡ fire n m k (fire n m j s)
-  fire-commute j k s ne r q = unfold fire in
-      ap (λ (d : Deed). act j d (fire n m k s)) (deed-frame j k s ne r q)
-      ∙ act-commute j k (deed n m j s) (deed n m k s) s ne (λ w. omega (arith, r .has w, q .has w, (moved-two j k s w ne) .0)) (λ w. (moved-two j k s w ne) .1)
-      ∙ sym (ap (λ (d : Deed). act k d (fire n m j s)) (deed-frame k j s (λ p. ne (sym p)) q r))
+  -- two firings in either order: each wire, and what each process keeps
+  module _ (j k : ℕ) (s : State) (ne : j ≢ k) (r : Ready n m j s) (q : Ready n m k s) where
+    commute-at : (w : ℕ) → queue (fire n m j (fire n m k s)) w ≡ queue (fire n m k (fire n m j s)) w
+    commute-at w =
+        rw (queue-fire j (fire n m k s) (ready-frame j k s ne r q) w, queue-fire k (fire n m j s) (ready-frame k j s (λ p. ne (sym p)) q r) w)
+        (rw (deed-frame j k s ne r q, deed-frame k j s (λ p. ne (sym p)) q r, queue-fire k s q w, queue-fire j s r w)
+        (wire-commute (length (onWire w ((deed n m k s) .took))) (length (onWire w ((deed n m j s) .took))) (queue s w) (onWire w ((deed n m k s) .put)) (onWire w ((deed n m j s) .put))
+        (omega (arith, r .has w, q .has w, (moved-two j k s w ne) .0)) (omega (arith, (moved-two j k s w ne) .1))))
+
+    commute-queues : (fire n m j (fire n m k s)) .queues ≡ (fire n m k (fire n m j s)) .queues
+    commute-queues = unfold fire queue in ext-getD [] _ _ (simp length-act) (λ w h. commute-at w)
+
+    commute-owns : (fire n m j (fire n m k s)) .owns ≡ (fire n m k (fire n m j s)) .owns
+    commute-owns = unfold fire act in
+        ap (λ (x : Deed). set ((fire n m k s) .owns) j (x .keeps)) (deed-frame j k s ne r q)
+        ∙ set-comm (s .owns) k j ((deed n m k s) .keeps) ((deed n m j s) .keeps) (λ p. ne (sym p))
+        ∙ sym (ap (λ (x : Deed). set ((fire n m j s) .owns) k (x .keeps)) (deed-frame k j s (λ p. ne (sym p)) q r))
+
+    fire-commute : fire n m j (fire n m k s) ≡ fire n m k (fire n m j s)
+    fire-commute = λ i. record { queues = commute-queues i; owns = commute-owns i }
 
 -- ── any two orders ───────────────────────────────────────────────────────────────────────────
 

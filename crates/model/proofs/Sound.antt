@@ -56,28 +56,22 @@ read-nonempty ignore q e h = absurd (h refl)
 read-nonempty (any t) q e h = nonempty q (and-left (not (empty q)) _ e)
 read-nonempty (only t z) q e h = nonempty q (and-left (not (empty q)) _ e)
 
--- a token on wire w, and a place on it
-abbrev Holds : State → ℕ → Type 0
-Holds s w = 1 ≤ length (queue s w)
-
-abbrev Open : Net → State → ℕ → Type 0
-Open n s w = length (queue s w) < capacity n w
-
-ins-ready : (s : State) (ws : List ℕ) (ps : List Pattern) (w : ℕ) → readyIns s ws ps ≡ true → 1 ≤ length (onWire w (moves ws (look s ws (map reads ps)))) → Holds s w
+ins-ready : (s : State) (ws : List ℕ) (ps : List Pattern) (w : ℕ) → readyIns s ws ps ≡ true → 1 ≤ length (onWire w (moves ws (look s ws (map reads ps)))) → 1 ≤ length (queue s w)
 unfolding look readyIns
 ins-ready s [] ps w e = unfold moves in no-move w
 ins-ready s (v ∷ ws) [] w e = unfold moves in no-move w
 ins-ready s (v ∷ ws) (p ∷ ps) w e =
     let a = and₂ (readyIn p (queue s v)) (readyIns s ws ps) e in
-    from-port (Holds s) v w ws _ _ (read-nonempty p (queue s v) (a .0)) (ins-ready s ws ps w (a .1))
+    from-port (λ (u : ℕ). 1 ≤ length (queue s u)) v w ws _ _ (read-nonempty p (queue s v) (a .0)) (ins-ready s ws ps w (a .1))
 
-outs-ready : (n : Net) (s : State) (en : Env) (ws : List ℕ) (acts : List Action) (w : ℕ) → readyOuts n s ws acts ≡ true → 1 ≤ length (onWire w (moves ws (map (result en) acts))) → Open n s w
+outs-ready : (n : Net) (s : State) (en : Env) (ws : List ℕ) (acts : List Action) (w : ℕ) → readyOuts n s ws acts ≡ true
+    → 1 ≤ length (onWire w (moves ws (map (result en) acts))) → length (queue s w) < capacity n w
 unfolding readyOuts
 outs-ready n s en [] acts w e = unfold moves in no-move w
 outs-ready n s en (v ∷ ws) [] w e = unfold moves in no-move w
 outs-ready n s en (v ∷ ws) (a ∷ acts) w e =
     let b = and₂ (not (writes a && full n s v)) (readyOuts n s ws acts) e in
-    from-port (Open n s) v w ws _ _ (λ x. not-full n s v (not-true (full n s v) (rw (result-writes en a x) at (b .0)))) (outs-ready n s en ws acts w (b .1))
+    from-port (λ (u : ℕ). length (queue s u) < capacity n u) v w ws _ _ (λ x. not-full n s v (not-true (full n s v) (rw (result-writes en a x) at (b .0)))) (outs-ready n s en ws acts w (b .1))
 
 -- ── the chosen rule is ready ─────────────────────────────────────────────────────────────────
 
@@ -146,8 +140,8 @@ flag-fires false r e = let z : _≡_ {A = ℕ} 0 1 = cc in absurd (omega arith)
 -- ── a marked process is ready ────────────────────────────────────────────────────────────────
 
 mark-ready : (n : Net) (s : State) (p : Proc) (r : ℕ) (o : Own) → markOf n s p o ≡ fires r
-    → ((w : ℕ) → 1 ≤ length (onWire w (moves (insOf p) (look s (insOf p) (readsOf p r)))) → Holds s w)
-    × ((sees : List (Option Token)) (w : ℕ) → 1 ≤ length (onWire w (moves (outsOf p) (sentOf n p r sees o))) → Open n s w)
+    → ((w : ℕ) → 1 ≤ length (onWire w (moves (insOf p) (look s (insOf p) (readsOf p r)))) → 1 ≤ length (queue s w))
+    × ((sees : List (Option Token)) (w : ℕ) → 1 ≤ length (onWire w (moves (outsOf p) (sentOf n p r sees o))) → length (queue s w) < capacity n w)
 unfolding insOf outsOf readsOf sentOf moves look
 mark-ready n s (box b) r o e =
     let u = rule b r in
@@ -155,10 +149,10 @@ mark-ready n s (box b) r o e =
     (λ w. ins-ready s (b .ins) (u .ins) w (y .0), λ sees w. outs-ready n s (envOf n b u sees (varsOf o)) (b .outs) (u .outs) w (y .2))
 mark-ready n s (input v ts) r o e =
     let f = not-true (full n s v) (and-right (ltb (takenOf o) (length ts)) (not (full n s v)) (flag-fires _ r (unfold markOf in e))) in
-    (λ w. no-move w, λ sees w. from-port (Open n s) v w [] (some (getD ts (takenOf o) noToken)) [] (λ x. not-full n s v f) (no-move w))
+    (λ w. no-move w, λ sees w. from-port (λ (u : ℕ). length (queue s u) < capacity n u) v w [] (some (getD ts (takenOf o) noToken)) [] (λ x. not-full n s v f) (no-move w))
 mark-ready n s (output v c) r o e =
     let f = nonempty (queue s v) (and-left (not (empty (queue s v))) (ltb (length (gotOf o)) c) (flag-fires _ r (unfold markOf in e))) in
-    (λ w. from-port (Holds s) v w [] (seen true (queue s v)) [] (λ x. f) (no-move w), λ sees w. no-move w)
+    (λ w. from-port (λ (u : ℕ). 1 ≤ length (queue s u)) v w [] (seen true (queue s v)) [] (λ x. f) (no-move w), λ sees w. no-move w)
 
 short : (a b c : ℕ) → a ≤ 1 → (1 ≤ a → b < c) → b ≤ c → b + a ≤ c
 short zero b c h g l = omega arith
@@ -208,8 +202,7 @@ module _ (n : Net) (m : ℕ → Mark) (one : OneEach n) where
   queue-split k s r w = unfold deed deedOf in took-front s (insOf (proc n k)) (readsOf (proc n k) (ruleOf (m k))) w ((moved-one n m one k s w) .0) (r .has w)
 
   pub sound-next : (k : ℕ) (s : State) (ds : List Deed) → Ready n m k s → Sound n s ds → Sound n (fire n m k s) (ds ++ (deed n m k s ∷ []))
-  unfolding putOn takenFrom
-  sound-next k s ds r q =
+  sound-next k s ds r q = unfold putOn takenFrom in
       let d = deed n m k s in
       record {
         shape = unfold fire in length-act k d s ∙ q .shape;

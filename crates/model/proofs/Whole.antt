@@ -196,8 +196,7 @@ module _ (f : Proc → List ℕ) where
   -- the ports don't depend on the tokens
   ports-same : (s : List ℕ) (x : Index) (tokens : List (List Token)) → ((w : ℕ) (a b : List Token) → f (input w a) ≡ f (input w b))
       → ports f ((netOf s x tokens) .procs) ≡ ports f ((netOf s x []) .procs)
-  unfolding netOf
-  ports-same s x tokens e = simp ports-append (rw (ports-alike (length (x .inputs)) (inputAt s x tokens) (inputAt s x []) (λ i. unfold inputAt in e _ _ _)))
+  ports-same s x tokens e = unfold netOf in simp ports-append (rw (ports-alike (length (x .inputs)) (inputAt s x tokens) (inputAt s x []) (λ i. unfold inputAt in e _ _ _)))
 
 -- the ports of a good process are wires of the network
 proc-ports : (n : Net) (p : Proc) → GoodProc n p → Each (λ w. w < length (n .wires)) 0 (insOf p) × Each (λ w. w < length (n .wires)) 0 (outsOf p)
@@ -208,8 +207,7 @@ proc-ports n (output w room) g = (λ k h. (let e : k ≡ 0 = omega (arith, h) in
 
 -- exactly one reading and one writing port a wire
 pub one-each : (n : Net) → GoodNet n → ((w : ℕ) → w < length (n .wires) → portsFit (n .procs) w ≡ true) → OneEach n
-unfolding portsFit
-one-each n g fit =
+one-each n g fit = unfold portsFit in
     let c = length (n .wires) in
     let ins : ℕ → Bool = λ w. eqb (count w (ports insOf (n .procs))) 1 in
     let outs : ℕ → Bool = λ w. eqb (count w (ports outsOf (n .procs))) 1 in
@@ -270,8 +268,7 @@ module _ (s : List ℕ) (x : Index) (c : Checked s x) (tokens : List (List Token
   m = netOf s x tokens
 
   pub ports-all : (w : ℕ) → w < length (m .wires) → portsFit (m .procs) w ≡ true
-  unfolding portsFit oddWire
-  ports-all w h =
+  ports-all w h = unfold portsFit oddWire in
       let e = wires-length s x [] in
       rw (ports-same insOf s x tokens (λ v a b. unfold insOf in refl), ports-same outsOf s x tokens (λ v a b. unfold outsOf in refl))
       (lowest-all (portsFit ((netOf s x []) .procs)) 0 (length ((netOf s x []) .wires)) (omega (arith, c .wired, e)) w (omega arith) (omega (arith, h, e, wires-length s x tokens)))
