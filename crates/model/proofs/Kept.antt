@@ -305,21 +305,18 @@ module _ (n : Net) (m : ℕ → Mark) (one : OneEach n) where
       (λ f. rw (getD-set-other (s .owns) k j ((deed n m k s) .keeps) (vars []) f) (g .kept j i))
 
   -- a firing whose deed is good leaves the state well laid out
-  good-next : (k : ℕ) (s : State) (ds : List Deed) → Ready n m k s → (k < length (n .procs)) × GoodDeed n (proc n k) (deed n m k s) → Sound n s ds × GoodState n s
-      → Sound n (fire n m k s) (ds ++ (deed n m k s ∷ [])) × GoodState n (fire n m k s)
-  good-next k s ds r x p =
-      let q = sound-next n m one k s ds r (p .0) in
-      let a = deed n m k s in (
-        q,
-        record {
-          queues = q .shape;
-          owns = unfold fire act in length-set (s .owns) k (a .keeps) ∙ p .1 .owns;
-          most = q .fits;
-          fit = λ w i. rw (queue-fire n m one k s r w) (fit-append ((wire n w) .ty) (drop (length (onWire w (a .took))) (queue s w)) (onWire w (a .put))
-              (fit-drop ((wire n w) .ty) (length (onWire w (a .took))) (queue s w) (p .1 .fit w i)) (x .1 .put w));
-          kept = λ j i. own-fire k j s (p .1) (x .0) (x .1) i;
-        },
-      )
+  good-next : (k : ℕ) (s : State) (es : List Deed) → Ready n m k s → (k < length (n .procs)) × GoodDeed n (proc n k) (deed n m k s) → Sound n (fire n m k s) es
+      → GoodState n s → GoodState n (fire n m k s)
+  good-next k s es r x q g =
+      let a = deed n m k s in
+      record {
+        queues = q .shape;
+        owns = unfold fire act in length-set (s .owns) k (a .keeps) ∙ g .owns;
+        most = q .fits;
+        fit = λ w i. rw (queue-fire n m one k s r w) (fit-append ((wire n w) .ty) (drop (length (onWire w (a .took))) (queue s w)) (onWire w (a .put))
+            (fit-drop ((wire n w) .ty) (length (onWire w (a .took))) (queue s w) (g .fit w i)) (x .1 .put w));
+        kept = λ j i. own-fire k j s g (x .0) (x .1) i;
+      }
 
 module _ (n : Net) (gn : GoodNet n) (one : OneEach n) where
   fresh-good : (p : Proc) → GoodProc n p → GoodOwn n p (fresh p)
@@ -345,7 +342,8 @@ module _ (n : Net) (gn : GoodNet n) (one : OneEach n) where
   reached-good (cycled {s = s} {ds = ds} ks x o) =
       let q = reached-sound n one x in
       let g = reached-good x in
-      (part n (mark n s) one (λ k d. (k < length (n .procs)) × GoodDeed n (proc n k) d) (λ t es. Sound n t es × GoodState n t) (good-next n (mark n s) one)
+      (part n (mark n s) one (λ k d. (k < length (n .procs)) × GoodDeed n (proc n k) d) (λ t es. Sound n t es × GoodState n t)
+      (λ k t es r y p. (let z = sound-next n (mark n s) one k t es r (p .0) in (z, good-next n (mark n s) one k t _ r y z (p .1))))
       ks [] s ds (rw append-nil (order-due n one s ks (q .shape) (q .fits) o))
       (λ k h. (let f = named-fires n s ks o k (rw append-nil at h) in (f .2, deed-good n gn s g (mark n s) k (f .0) (f .2) (f .1) (f .1)))) (q, g)) .0 .1
 

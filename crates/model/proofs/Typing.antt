@@ -122,11 +122,10 @@ then-good t v (Fault n) f p g = ((g (pos 0)) .0, tt)
 -- not and lnot
 one-good : (o : ℕ) (t v : Ty) (a : ℤ) → Fine t → oneType o t ≡ typed v → Good v (applyOne o t a)
 one-good o t v a f e = unfold applyOne oneType in
-    judged-good (cond (eqb o 4) (isBool t) (isNumber t)) t v (applyOne o t a) e (λ h. (
-      f,
-      cases (eqb o 4) (λ c. rw c (let q = is-bool t f (rw c at h) in (sym q, rw q (truth-within (not (isTrue a))))))
-          (λ c. rw c (refl, read-within t _ (f .low) (complement _ (2 ^ t .p) (pow-pos (t .p))))),
-    ))
+    let x : cond (eqb o 4) (isBool t) (isNumber t) ≡ true → Of t (applyOne o t a) = λ h.
+    cases (eqb o 4) (λ c. rw c (let q = is-bool t f (rw c at h) in (sym q, rw q (truth-within (not (isTrue a))))))
+    (λ c. rw c (refl, read-within t _ (f .low) (complement _ (2 ^ t .p) (pow-pos (t .p))))) in
+    judged-good (cond (eqb o 4) (isBool t) (isNumber t)) t v (applyOne o t a) e (λ h. (f, x h))
 
 -- the two-operand operators: up to 19 the left side's type, then bool
 two-of : (o : ℕ) (t : Ty) (a b : ℤ) → 1 ≤ t .p → Of (cond (leb o 19) t bool) (apply o t a b)

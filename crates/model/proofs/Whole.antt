@@ -18,7 +18,7 @@ use Rattle.model.specs.Network.{Box, Proc, box, input, output, Net, wire
 use Rattle.model.specs.NetworkFile.{Index, fieldAt, Verdict, good, refuse, next, orRefuse, tabulate, inputForm, outputForm, outputLimits, bodyAt, wireOf, wiresOf, boxAt, inputAt, outputAt, netOf, fields, count, ports, portsFit, lowestFrom, oddWire, portsOf, network}
 use Rattle.model.specs.States.{tokensFit, tokenField, tokensIn, inputTokens, tokensFrom, tokenFile, inputTypes}
 use Rattle.model.specs.Calls.{tokened, withTokens}
-use Rattle.model.proofs.Tests.{and-left, and-right, and₂, and₃, cases, same-or}
+use Rattle.model.proofs.Tests.{and₂, and₃, cases, same-or}
 use Rattle.model.proofs.Order.{OneEach, count-append, hit-other}
 use Rattle.model.proofs.Accepted.{Valid, fields-valid}
 use Rattle.model.proofs.Lookup.{wires-length}
@@ -208,12 +208,10 @@ proc-ports n (output w room) g = (λ k h. (let e : k ≡ 0 = omega (arith, h) in
 -- exactly one reading and one writing port a wire
 pub one-each : (n : Net) → GoodNet n → ((w : ℕ) → w < length (n .wires) → portsFit (n .procs) w ≡ true) → OneEach n
 one-each n g fit = unfold portsFit in
-    let c = length (n .wires) in
-    let ins : ℕ → Bool = λ w. eqb (count w (ports insOf (n .procs))) 1 in
-    let outs : ℕ → Bool = λ w. eqb (count w (ports outsOf (n .procs))) 1 in
+    let once : (w : ℕ) → w < length (n .wires) → (eqb (count w (ports insOf (n .procs))) 1 ≡ true) × (eqb (count w (ports outsOf (n .procs))) 1 ≡ true) = λ w h. and₂ _ _ (fit w h) in
     record {
-      readers = ports-one insOf c (n .procs) (λ k h. (proc-ports n (getD (n .procs) k nobody) (g .procs k h)) .0) (λ w h. and-left (ins w) (outs w) (fit w h));
-      writers = ports-one outsOf c (n .procs) (λ k h. (proc-ports n (getD (n .procs) k nobody) (g .procs k h)) .1) (λ w h. and-right (ins w) (outs w) (fit w h));
+      readers = ports-one insOf (length (n .wires)) (n .procs) (λ k h. (proc-ports n (getD (n .procs) k nobody) (g .procs k h)) .0) (λ w h. (once w h) .0);
+      writers = ports-one outsOf (length (n .wires)) (n .procs) (λ k h. (proc-ports n (getD (n .procs) k nobody) (g .procs k h)) .1) (λ w h. (once w h) .1);
     }
 
 -- ── an accepted network with an accepted token file ──────────────────────────────────────────
