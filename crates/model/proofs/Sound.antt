@@ -110,8 +110,8 @@ try-fires n s b o k r e = unfold tryRule in
 orElse-fires : {A : Type 0} (x y : Mark) (r : ℕ) → orElse x y ≡ fires r → (x ≡ fires r → A) → (y ≡ fires r → A) → A
 unfolding orElse
 orElse-fires quiet y r e f g = g e
-orElse-fires (fires z) y r e f g = f e
-orElse-fires (faulty z) y r e f g = let z : _≡_ {A = ℕ} 0 1 = cc in absurd (omega arith)
+orElse-fires (fires x) y r e f g = f e
+orElse-fires (faulty x) y r e f g = let z : _≡_ {A = ℕ} 0 1 = cc in absurd (omega arith)
 
 -- one of those tried fires, in whatever order they are
 first-in : (f : ℕ → Mark) (ks : List ℕ) (r : ℕ) → first f ks ≡ fires r → (k : ℕ) × (1 ≤ count k ks) × (f k ≡ fires r)
