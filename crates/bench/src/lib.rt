@@ -4,18 +4,35 @@ use model::CycleAnswer;
 use model::LoadAnswer;
 use model::MarkAnswer;
 use model::Marked;
+use model::ProcessId;
 use model::Refusal;
+use model::RuleId;
 use model::RunAnswer;
 use model::WriteAnswer;
 use opening::Opened;
 use table::Counts;
 ghost use mathlib.Core.Path.{_≡_};
 ghost use Rattle.model.specs.Cycles.{finding};
-ghost use Rattle.model.specs.Calls.{saidLoad, saidCycle, saidRun, saidWrite, marksOf, loadCall, markCall, cycleCall, runCall, writeCall};
+ghost use Rattle.model.specs.Calls.{saidCheck, saidLoad, saidCycle, saidRun, saidWrite, marksOf, checkCall, bodyCall, loadCall, markCall, cycleCall, runCall, writeCall};
+ghost use Rattle.octets.specs.Part.{PartOf};
 ghost use Rattle.places.specs.Standing.{bareNet, netIn, Standing, stateOf};
 ghost use Rattle.token_file.specs.Fields.{Fields};
 ghost use Rattle.opening.specs.Opening.{Open};
 ghost use Rattle.bench.specs.Afters.{after, loadIn, markedAs, begun, begins, writeIn};
+
+// The check of a network file: accepted, or the refusal's number and place.
+pub fn check(net: &[u8]) -> CheckAnswer
+    ensures { λ r. ⌜ saidCheck r ≡ checkCall (now (net .entry)) ⌝ }
+{
+    network::check(net)
+}
+
+// The body of rule r of box b, that very part of the file; empty at the file's end where there is none.
+pub fn rule_body<'a>(net: &'a [u8], b: ProcessId, r: RuleId) -> &'a [u8]
+    ensures { λ x. ⌜ PartOf (net .entry) ((bodyCall (now (net .entry)) (b .0) (r .0)) .start) ((bodyCall (now (net .entry)) (b .0) (r .0)) .len) x ⌝ }
+{
+    network::rule_body(net, b, r)
+}
 
 // A load of an accepted network: 6 for a buffer that is too short.
 fn load_in(
