@@ -3,7 +3,7 @@
 #
 # Assembles every example into a temporary folder, compares the files with the stored network.bin and tokens.bin, runs
 # simulate.py on them and compares what it prints with expected.txt. With RUN, a run program, this is also started in each
-# folder (it reads network.bin and tokens.bin there) and what it prints is compared too.
+# folder (it reads network.bin and tokens.bin there) and what it prints is compared too; so it is in the folders of limits/.
 # The last line is `N examples, D different`; the answer is 0 exactly when D is 0.
 set -u
 case "${1-}" in
@@ -36,5 +36,14 @@ for text in "$here"/*/network.txt; do
     different=$((different + 1))
   fi
 done
+if [ $# -gt 0 ]; then
+  for folder in "$here"/limits/*/; do
+    all=$((all + 1))
+    if ! (cd "$folder" && "$@") | cmp -s - "$folder/expected.txt"; then
+      echo "limits/$(basename "$folder"): $1"
+      different=$((different + 1))
+    fi
+  done
+fi
 echo "$all examples, $different different"
 [ "$different" -eq 0 ]
