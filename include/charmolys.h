@@ -1,5 +1,5 @@
 /*
- * Charmolys for C: the calls of the bench, in the archive that `rt staticlib bench_c` makes
+ * Charmolys for C: the seven calls of the bench, in the archive that `rt staticlib bench_c` makes
  * (target/staticlib/libbench_c.a, for x86-64 Linux). It keeps nothing between calls, asks for no memory and
  * calls nothing of the C library, so calls on different memory may run at the same time.
  *
@@ -83,6 +83,22 @@ uint64_t charmolys_load(const uint8_t *network, size_t network_length, const uin
 uint64_t charmolys_mark(const uint8_t *network, size_t network_length, const uint8_t *tokens, size_t tokens_length,
                         const uint8_t *state, size_t state_length,
                         uint64_t *answer, size_t answer_length);
+
+/*
+ * One cycle: the marked processes fire in the given order, a byte for each process number. DONE; or IDLE where nothing
+ * is marked and order is empty; or REFUSED with 1 to 7, 9 for a fault, 8 for an order that isn't each marked process once.
+ */
+uint64_t charmolys_cycle(const uint8_t *network, size_t network_length, const uint8_t *tokens, size_t tokens_length,
+                         uint8_t *state, size_t state_length, const uint8_t *order, size_t order_length,
+                         uint64_t *answer, size_t answer_length);
+
+/*
+ * Cycles until nothing is marked (IDLE), the budget is spent with something marked (SPENT), or a fault (REFUSED with 9
+ * and the box; state then holds the cycles done before, and cycles counts them). Or REFUSED with 1 to 7 and 0 cycles.
+ */
+uint64_t charmolys_run(const uint8_t *network, size_t network_length, const uint8_t *tokens, size_t tokens_length,
+                       uint8_t *state, size_t state_length, uint64_t budget,
+                       uint64_t *answer, size_t answer_length);
 
 /*
  * Writes what the outputs got, a field for each output. WRITTEN, and the first value bytes of output are the output

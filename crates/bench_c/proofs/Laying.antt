@@ -1,14 +1,19 @@
 -- Numbers laid into a lent array, and what is heard of a call.
 -- Assumes nothing.
 use mathlib.Core.Path.{_≡_, refl, sym, ap, _∙_}
+use mathlib.Core.Bool.{cond}
 use mathlib.Core.List.{List, [], _∷_, _++_}
 use Prim.Native.Nat.{ℕ, suc, _+_, _≤_, _<_}
 use native.Mathlib.Omega.{arith}
+use native.Mathlib.Decide.{decLt}
+use lib.Dec.{leb}
 use lib.ListN.{length, set, getD, drop, drop-of-length-le}
 use lib.Seq.{drop-cons}
+use borrow.Author.Tests.{le-leb, lt-leb}
 use Rattle.model.specs.declared.Refusal.{Refusal}
-use Rattle.model.specs.NetworkFile.{Stretch}
-use Rattle.model.specs.Calls.{Answer, refusal, After, Marking}
+use Rattle.model.specs.declared.Ending.{Ending}
+use Rattle.model.specs.NetworkFile.{Stretch, orRefuse, byVerdict}
+use Rattle.model.specs.Calls.{Answer, refused, refusal, saidEnding, After, Marking, runCall}
 use Rattle.bench.specs.Afters.{after}
 use Rattle.bench_c.specs.declared.Numbers.{Numbers}
 use Rattle.bench_c.specs.Heard.{numbersOf, stretchOf, listed, laid, heard, answered, says, saysMarks}
@@ -44,9 +49,34 @@ pub stretch-is : (s l : ℕ) {p v : ℕ} → p ≡ s → v ≡ l → _≡_ {A = 
 unfolding stretchOf
 stretch-is s l e f = rw (e, f) refl
 
+pub fault-is : (c : ℕ) {n p : ℕ} (number place : ℕ) → n ≡ number → p ≡ place → _≡_ {A = Numbers} (record { word = 0; number = n; place = p; cycles = c; value = 0 }) (numbersOf (refused number place c))
+unfolding numbersOf
+fault-is c number place e f = rw (e, f) refl
+
 -- by the case of the code's answer
 pub said : {A : Type 0} (f : A → Answer) {a b : A} {n : Numbers} → a ≡ b → n ≡ numbersOf (f b) → n ≡ numbersOf (f a)
 said {A = A} f e h = h ∙ sym (ap (λ (x : A). numbersOf (f x)) e)
+
+-- by the case of a run's ending, after c cycles
+pub ended : (c : ℕ) {e f : Ending} {n : Numbers} → e ≡ f → n ≡ numbersOf (saidEnding f c) → n ≡ numbersOf (saidEnding e c)
+ended c e h = said (λ (x : Ending). saidEnding x c) e h
+
+-- ── a budget ─────────────────────────────────────────────────────────────────────────────────
+
+pub clipped : (b : ℕ) → 65535 < b → 65536 ≡ cond (leb b 65535) b 65536
+clipped b h = rw (lt-leb b 65535 h) refl
+
+pub kept : (b : ℕ) → b ≤ 65535 → b ≡ cond (leb b 65535) b 65536
+kept b h = rw (le-leb b 65535 h) refl
+
+-- over the limit any budget is refused alike
+pub run-clipped : (s ts st : List ℕ) (b : ℕ) → runCall s ts st (cond (leb b 65535) b 65536) ≡ runCall s ts st b
+unfolding runCall orRefuse byVerdict
+run-clipped s ts st b = by-order (decLt 65535 b)
+  where
+    by-order : Dec (65535 < b) → runCall s ts st (cond (leb b 65535) b 65536) ≡ runCall s ts st b
+    by-order (yes h) = rw (lt-leb b 65535 h) refl
+    by-order (no g) = ap (runCall s ts st) (sym (kept b (omega (arith, g))))
 
 -- ── what is heard ────────────────────────────────────────────────────────────────────────────
 

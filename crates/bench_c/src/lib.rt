@@ -2,17 +2,21 @@
 // caller lends. A number that finds no place in a short array is left out. None of them asks for anything.
 use index::Checked;
 use model::CheckAnswer;
+use model::CycleAnswer;
+use model::Ending;
 use model::LoadAnswer;
 use model::MarkAnswer;
 use model::ProcessId;
 use model::Refusal;
+use model::RunAnswer;
 use model::WriteAnswer;
 use table::Counts;
 ghost use mathlib.Core.Path.{_≡_};
+ghost use mathlib.Core.Bool.{cond};
 ghost use mathlib.Core.List.{[]};
-ghost use Prim.Native.Nat.{_≤_, _<_};
-ghost use lib.ListN.{length, set};
-ghost use Rattle.model.specs.Calls.{refusal, saidCheck, saidLoad, saidMark, saidWrite, checkCall, bodyCall, loadCall, markCall, writeCall};
+ghost use lib.Dec.{leb};
+ghost use lib.ListN.{set};
+ghost use Rattle.model.specs.Calls.{refusal, saidCheck, saidLoad, saidMark, saidCycle, saidEnding, saidRun, saidWrite, checkCall, bodyCall, loadCall, markCall, cycleCall, runCall, writeCall};
 ghost use Rattle.lookup.specs.Tabled.{Tabled};
 ghost use Rattle.bench_c.specs.Heard.{spelt, numbersOf, stretchOf, listed, laid, heard, saysOnly, saysBody, says, saysMarks};
 
@@ -37,6 +41,16 @@ fn long(x: usize) -> u64
     ensures { λ r. ⌜ r ≡ x ⌝ }
 {
     x as u64
+}
+
+// A budget for the bench, which takes 32 bits: what is over the limit stays over it.
+fn clip(budget: u64) -> u32
+    ensures { λ r. ⌜ r ≡ cond (leb budget 65535) budget 65536 ⌝ }
+{
+    if 65535 < budget {
+        return 65536;
+    }
+    budget as u32
 }
 
 // An answer that is no refusal.
@@ -89,6 +103,42 @@ fn of_mark(a: MarkAnswer) -> Numbers
     match a {
         MarkAnswer::Marks { set } => spell(3, 0, set),
         MarkAnswer::Refused { refusal } => refuse(refusal),
+    }
+}
+
+fn of_cycle(a: CycleAnswer) -> Numbers
+    ensures { λ r. ⌜ r ≡ numbersOf (saidCycle a) ⌝ }
+{
+    match a {
+        CycleAnswer::Done => spell(4, 1, 0),
+        CycleAnswer::Idle => spell(5, 0, 0),
+        CycleAnswer::Refused { refusal } => refuse(refusal),
+    }
+}
+
+// How a run ended; a fault is refusal 9 with the cycles done before it.
+fn of_ending(e: Ending, cycles: u64) -> Numbers
+    ensures { λ r. ⌜ r ≡ numbersOf (saidEnding e cycles) ⌝ }
+{
+    match e {
+        Ending::Idle => spell(5, cycles, 0),
+        Ending::Spent => spell(6, cycles, 0),
+        Ending::Fault { number, place } => Numbers {
+            word: 0,
+            number: wide(number),
+            place: wide(place),
+            cycles,
+            value: 0,
+        },
+    }
+}
+
+fn of_run(a: RunAnswer) -> Numbers
+    ensures { λ r. ⌜ r ≡ numbersOf (saidRun a) ⌝ }
+{
+    match a {
+        RunAnswer::Ended { ending, cycles } => of_ending(ending, cycles as u64),
+        RunAnswer::Refused { refusal } => refuse(refusal),
     }
 }
 
@@ -216,6 +266,35 @@ pub extern "C" fn charmolys_mark(net: &[u8], tokens: &[u8], state: &[u8], answer
     let word = lay(of_mark(a), answer);
     lay_rules(&rules, answer);
     word
+}
+
+// A single cycle: the marked processes fire in the given order.
+#[no_mangle]
+pub extern "C" fn charmolys_cycle(
+    net: &[u8],
+    tokens: &[u8],
+    state: &mut [u8],
+    order: &[u8],
+    answer: &mut [u64],
+) -> u64
+    ensures { λ r. ⌜ heard r (now (answer .exit)) (now (state .exit)) ≡ says (cycleCall (now (net .entry)) (now (tokens .entry)) (now (state .entry)) (now (order .entry))) (now (answer .entry)) ⌝ }
+{
+    lay(of_cycle(bench::cycle(net, tokens, state, order)), answer)
+}
+
+// A run of at most as many cycles as the budget says.
+#[no_mangle]
+pub extern "C" fn charmolys_run(
+    net: &[u8],
+    tokens: &[u8],
+    state: &mut [u8],
+    budget: u64,
+    answer: &mut [u64],
+) -> u64
+    ensures { λ r. ⌜ heard r (now (answer .exit)) (now (state .exit)) ≡ says (runCall (now (net .entry)) (now (tokens .entry)) (now (state .entry)) budget) (now (answer .entry)) ⌝ }
+{
+    let b = clip(budget);
+    lay(of_run(bench::run(net, tokens, state, b)), answer)
 }
 
 // The output file, at the start of the output buffer.
