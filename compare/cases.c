@@ -1,4 +1,4 @@
-/* Cases of calls: read, written, and put to the reference. */
+/* Cases of calls: read, written, and put to a bench. */
 #include "cases.h"
 
 #include <inttypes.h>
@@ -28,6 +28,12 @@ struct bytes bytes_copy(struct bytes from) {
 void bytes_free(struct bytes *b) {
     if (b->there) free(b->data);
     *b = (struct bytes){false, NULL, 0};
+}
+
+/* Do both hold the same? */
+bool bytes_same(struct bytes a, struct bytes b) {
+    if (!a.there || !b.there) return a.there == b.there;
+    return a.length == b.length && memcmp(a.data, b.data, a.length) == 0;
 }
 
 /* The same bytes, for a call that reads them. */
@@ -126,7 +132,7 @@ void case_free(struct call_case *c) {
 }
 
 /* Puts the call to the reference; lent is its buffer. */
-static struct answer ask(const struct call_case *c, struct bytes lent) {
+struct answer ask_reference(const struct call_case *c, struct bytes lent) {
     struct input_bytes network = bytes_view(c->network), tokens = bytes_view(c->tokens);
     if (strcmp(c->call, "body") == 0) return reference_rule_body(network, c->numbers[0], c->numbers[1]);
     if (strcmp(c->call, "load") == 0) return reference_load(network, tokens, bytes_lend(lent));
@@ -165,10 +171,14 @@ static void put_words(const char *call, const struct answer *a, char *words, siz
     }
 }
 
-/* Asks the reference. */
-struct outcome case_ask(const struct call_case *c) {
-    struct outcome o = {{0}, {false, NULL, 0}};
-    o.lent = strcmp(c->call, "write") == 0 ? bytes_make(c->numbers[0], 0x5a) : bytes_copy(c->state);
+/* The buffer that a case lends, as it is before the call. */
+struct bytes case_lent(const struct call_case *c) {
+    return strcmp(c->call, "write") == 0 ? bytes_make(c->numbers[0], 0x5a) : bytes_copy(c->state);
+}
+
+/* Asks a bench. */
+struct outcome case_ask(const struct call_case *c, bench_asked *ask) {
+    struct outcome o = {{0}, case_lent(c)};
     struct answer a = ask(c, o.lent);
     put_words(c->call, &a, o.words, sizeof o.words);
     return o;

@@ -36,6 +36,9 @@ struct bytes bytes_copy(struct bytes from);
 /* Gives the memory back. */
 void bytes_free(struct bytes *b);
 
+/* Do both hold the same? */
+bool bytes_same(struct bytes a, struct bytes b);
+
 /* The same bytes, for a call that reads them. */
 struct input_bytes bytes_view(struct bytes b);
 
@@ -54,7 +57,16 @@ void case_print(FILE *out, const struct call_case *c);
 /* Gives the memory of a case back. */
 void case_free(struct call_case *c);
 
-/* Asks the reference. */
-struct outcome case_ask(const struct call_case *c);
+/* The buffer that a case lends, as it is before the call. */
+struct bytes case_lent(const struct call_case *c);
+
+/* Puts the call of a case to a bench; lent is its buffer: the output's for write, else the state's. */
+typedef struct answer bench_asked(const struct call_case *c, struct bytes lent);
+
+/* Puts it to the reference. */
+struct answer ask_reference(const struct call_case *c, struct bytes lent);
+
+/* Asks a bench. */
+struct outcome case_ask(const struct call_case *c, bench_asked *ask);
 
 #endif

@@ -1,5 +1,13 @@
-/* Compares a file of vectors with the reference: vectors FILE. */
+/* Compares a file of vectors with the reference, or, built with LIBRARY, with the library: vectors FILE. */
 #include "cases.h"
+#ifdef LIBRARY
+#include "library.h"
+#define ASKED ask_library
+#define PRINTED library_print_run
+#else
+#define ASKED ask_reference
+#define PRINTED reference_print_run
+#endif
 
 #include <stdlib.h>
 #include <string.h>
@@ -23,12 +31,6 @@ static char *read_file(const char *name) {
     return text;
 }
 
-/* Do both buffers hold the same? */
-static bool same_bytes(struct bytes a, struct bytes b) {
-    if (!a.there || !b.there) return a.there == b.there;
-    return a.length == b.length && memcmp(a.data, b.data, a.length) == 0;
-}
-
 /* Splits at " | ": gives what stands before it and moves on to what stands behind. */
 static char *next_part(char **rest) {
     char *part = *rest;
@@ -45,11 +47,11 @@ static bool call_agrees(char *line, unsigned number) {
     struct bytes expected = {false, NULL, 0};
     bool good = words != NULL && buffer != NULL && case_parse(columns, &c) && bytes_parse(buffer, &expected);
     if (good) {
-        struct outcome o = case_ask(&c);
-        good = strcmp(o.words, words) == 0 && same_bytes(o.lent, expected);
+        struct outcome o = case_ask(&c, ASKED);
+        good = strcmp(o.words, words) == 0 && bytes_same(o.lent, expected);
         if (!good) {
             printf("line %u (%s): expected %s, got %s%s\n", number, c.call, words, o.words,
-                   same_bytes(o.lent, expected) ? "" : ", and other bytes");
+                   bytes_same(o.lent, expected) ? "" : ", and other bytes");
         }
         bytes_free(&o.lent);
     } else {
@@ -87,7 +89,7 @@ static bool run_agrees(char *line, unsigned number) {
     bool good = expected != NULL && parse_run_file(strtok(columns, " "), &network) &&
                 parse_run_file(strtok(NULL, " "), &tokens);
     if (good) {
-        char *printed = reference_print_run(bytes_view(network), bytes_view(tokens));
+        char *printed = PRINTED(bytes_view(network), bytes_view(tokens));
         good = printed != NULL && same_text(printed, expected);
         if (!good) printf("line %u: expected %s, got\n%s", number, expected, printed == NULL ? "nothing\n" : printed);
         free(printed);

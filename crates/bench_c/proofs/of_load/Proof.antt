@@ -1,0 +1,42 @@
+use mathlib.Core.Path.{ap, _∙_}
+use borrow.Author.Needs.{needs}
+use Rattle.model.specs.Calls.{saidLoad, refusal}
+use Rattle.bench_c.specs.Heard.{numbersOf, spelt}
+use Rattle.bench_c.proofs.Laying.{said}
+use Rattle.bench_c.proofs.of_load.Statement.{statement}
+use Rattle.bench_c.proofs.of_load.Tie as tie
+
+enum-known-a : tie.Need-enum-known-a
+enum-known-a c = search needs
+
+long-requires : tie.Need-long-requires
+long-requires c κs = search needs
+
+spell-requires : tie.Need-spell-requires
+spell-requires c κs = search needs
+
+enum-known-a-2 : tie.Need-enum-known-a-2
+enum-known-a-2 c = search needs
+
+refuse-requires : tie.Need-refuse-requires
+refuse-requires c κs = search needs
+
+returns : tie.Need-returns
+unfolding saidLoad numbersOf
+returns c = said saidLoad (c .before .before .before .a .given .1) (c .spell .ensures ∙ ap (spelt 2 0) (c .before .long .ensures))
+
+returns-2 : tie.Need-returns-2
+unfolding saidLoad
+returns-2 c = said saidLoad (c .before .before .a2 .given .1) (c .refuse .ensures)
+
+pub of-load-spec : {M : Type 1} → statement M
+of-load-spec =
+    tie.close
+    (tie.spec
+    enum-known-a
+    long-requires
+    spell-requires
+    enum-known-a-2
+    refuse-requires
+    returns
+    returns-2)
