@@ -12,14 +12,14 @@ use borrow.Author.Tests.{ne-eqb, lt-ltb, le-ltb}
 use Rattle.model.specs.declared.Token.{Token}
 use Rattle.model.specs.Bytes.{twoAt}
 use Rattle.model.specs.Network.{input, output, Net, State, wire, proc, queue, own, takenOf, gotOf}
-use Rattle.model.specs.NetworkFile.{Index, hit, inputAt, outputAt}
+use Rattle.model.specs.NetworkFile.{Index, hit, netOf}
 use Rattle.model.specs.States.{wireBytes, ownBytes}
 use Rattle.model.specs.Cycles.{empty, full, flag, markOf, mark, marked}
-use Rattle.model.proofs.Lookup.{input-proc, output-proc}
 use Rattle.table.specs.declared.Counts.{Counts}
 use Rattle.table.specs.Table.{indexIn}
 use Rattle.queues.proofs.Queues.{taken-count, got-count, wire-count}
-use Rattle.lookup.proofs.Tabled.{n-boxes, n-inputs, n-outputs, input-entry, output-entry}
+use Rattle.lookup.specs.Ends.{wireAt, roomAt}
+use Rattle.lookup.proofs.Tabled.{input-is, output-is}
 use Rattle.places.specs.Standing.{tokensOf, netIn, Standing, stateOf}
 use Rattle.places.proofs.Standing.{state-good}
 use Rattle.sights.specs.Seen.{fullIn}
@@ -104,25 +104,19 @@ module _ (s t p ts b : List ℕ) (c : Counts) (h : Standing s t p ts b c) where
         ∙ ap not (length-zero (queue st w))
         ∙ ap (λ (u : ℕ). not (empty (queue st u))) d
 
-  module _ (k i : ℕ) where
-    pub input-marks : i < c .inputs → k ≡ c .boxes + i → EndMark n st k (length (getD (tokensOf s t c ts) i [])) (not (full n st (getD s (getD t (640 + i) 0 + 3) 0)))
-    unfolding netIn inputAt
-    input-marks l e =
-        let m : k ≡ length (x .boxes) + i = omega (arith, n-boxes s t c (h .tabled), e) in
-        input-end n st k _ _
-        (ap (proc n) m ∙ input-proc s x (tokensOf s t c ts) i (omega (arith, n-inputs s t c (h .tabled))) ∙ ap (λ (o : ℕ). input (getD s (o + 3) 0) (getD (tokensOf s t c ts) i [])) (input-entry s t c (h .tabled) i l))
+  module _ (k : ℕ) where
+    pub input-marks : (i : ℕ) → i ≡ k - c .boxes → c .boxes ≤ k → k < c .boxes + c .inputs → EndMark n st k (length (getD (tokensOf s t c ts) i [])) (not (full n st (wireAt (proc (netOf s x []) k))))
+    unfolding netIn
+    input-marks i e from to = rw e (input-end n st k _ _ (input-is s t c (h .tabled) k from to (tokensOf s t c ts)))
 
-    pub output-marks : i < c .outputs → k ≡ c .boxes + c .inputs + i → EndMark n st k (twoAt s (getD t (648 + i) 0 + 4)) (not (empty (queue st (getD s (getD t (648 + i) 0 + 3) 0))))
-    unfolding netIn outputAt
-    output-marks l e =
-        let m : k ≡ length (x .boxes) + length (x .inputs) + i = omega (arith, n-boxes s t c (h .tabled), n-inputs s t c (h .tabled), e) in
-        output-end n st k _ _
-        (ap (proc n) m ∙ output-proc s x (tokensOf s t c ts) i (omega (arith, n-outputs s t c (h .tabled))) ∙ ap (λ (o : ℕ). output (getD s (o + 3) 0) (twoAt s (o + 4))) (output-entry s t c (h .tabled) i l))
+    pub output-marks : c .boxes + c .inputs ≤ k → k < c .boxes + c .inputs + c .outputs → EndMark n st k (roomAt (proc (netOf s x []) k)) (not (empty (queue st (wireAt (proc (netOf s x []) k)))))
+    unfolding netIn
+    output-marks from to = output-end n st k _ _ (output-is s t c (h .tabled) k from to (tokensOf s t c ts))
 
   -- an input or output is marked with rule 0 or not at all: never a fault
   pub ends-fires : (k : ℕ) → c .boxes ≤ k → k < c .boxes + c .inputs + c .outputs → mark n st k ≡ flag (marked (mark n st k))
   ends-fires k l m = go (decLt k (c .boxes + c .inputs))
     where
       go : Dec (k < c .boxes + c .inputs) → mark n st k ≡ flag (marked (mark n st k))
-      go (yes g) = end-fires n st k _ _ (input-marks k (k - c .boxes) (omega arith) (omega arith))
-      go (no f) = end-fires n st k _ _ (output-marks k (k - (c .boxes + c .inputs)) (omega (arith, f)) (omega (arith, f)))
+      go (yes g) = end-fires n st k _ _ (input-marks k (k - c .boxes) refl l g)
+      go (no f) = end-fires n st k _ _ (output-marks k (omega (arith, f)) m)

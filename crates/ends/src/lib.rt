@@ -50,7 +50,7 @@ pub fn input_marked(
     if token_file::input_count(tokens, fields, i) <= taken {
         return false;
     }
-    let w = lookup::input_wire(net, table, i);
+    let w = lookup::input_wire(net, table, c, k);
     let part = sights::wire_part(net, table, c, starts, tokens, w, state);
     sights::is_full(part) == 0
 }
@@ -70,13 +70,11 @@ pub fn output_marked(
     requires { ⌜ k .0 < c .boxes + c .inputs + c .outputs ⌝ }
     ensures { λ r. ⌜ r ≡ marked (mark (netIn (now (net .entry)) (now (table .entry)) c (now (tokens .entry))) (stateOf (now (net .entry)) (now (table .entry)) c (now (tokens .entry)) (now (state .entry))) (k .0)) ⌝ }
 {
-    let first = c.boxes + c.inputs;
-    let i = octets::wide(k.0) - first;
     let got = own_count(net, table, c, starts, tokens, k, state);
-    if lookup::room(net, table, i) <= got {
+    if lookup::room(net, table, c, k) <= got {
         return false;
     }
-    let w = lookup::output_wire(net, table, i);
+    let w = lookup::output_wire(net, table, c, k);
     let part = sights::wire_part(net, table, c, starts, tokens, w, state);
     queues::count(part) != 0
 }

@@ -10,13 +10,11 @@ use Rattle.model.specs.NetworkFile.{boxAt}
 use Rattle.model.specs.States.{tokensFit}
 use Rattle.model.specs.Cycles.{Mark, fires, deed, ruleOf, fire, markOf, mark}
 use Rattle.model.specs.Orders.{onWire}
-use Rattle.model.proofs.Lookup.{rules-length}
 use Rattle.model.proofs.Sound.{rule-chosen}
 use Rattle.model.proofs.Order.{Ready}
 use Rattle.model.proofs.Kept.{GoodOwn}
 use Rattle.table.specs.declared.Counts.{Counts}
 use Rattle.table.specs.Table.{indexIn}
-use Rattle.lookup.proofs.Tabled.{rules-in}
 use Rattle.places.specs.Standing.{netIn, Standing, stateOf}
 use Rattle.places.proofs.Standing.{state-good}
 use Rattle.moves.specs.Moves.{Became}
@@ -48,11 +46,11 @@ module _ (s t p ts b : List ℕ) (c : Counts) (h : Standing s t p ts b c) (k r :
   unfolding deed ruleOf deedAt
   ready = record { shape = (state-good s t p ts b c h) .queues; has = x .sound .has; room = x .sound .room }
 
-  pub as-box : k < c .boxes → BoxReady t c n st k r
+  pub as-box : k < c .boxes → BoxReady (boxAt s (indexIn t c) k) c n st k r
   as-box l =
       let i = indexIn t c in
       let f : markOf n (x .start) (box (boxAt s i k)) (own (x .start) k) ≡ fires r = subst (λ (y : Proc). markOf n (x .start) y (own (x .start) k) ≡ fires r) (proc-is s t p ts b c h k l) (unfold mark in x .marked) in
-      record { known = l; there = omega (arith, (rule-chosen n (x .start) (boxAt s i k) (own (x .start) k) r f) .0, rules-in s t c (h .tabled) k l, rules-length s i [] k); sound = x .sound }
+      record { known = l; there = (rule-chosen n (x .start) (boxAt s i k) (own (x .start) k) r f) .0; sound = x .sound }
 
   module _ (from : c .boxes ≤ k) (to : k < c .boxes + c .inputs) where
     pub as-input : InputReady c n st k

@@ -11,7 +11,7 @@ use lib.Signed.{mag}
 use Rattle.model.specs.Expressions.{Env}
 use Rattle.model.specs.Rules.{Rule, Pattern, Action, ruleRead, readRule, matchedTypes}
 use Rattle.model.specs.Network.{Box, Net, State, box, vars, rule, own, varsOf, insOf, outsOf, shapeOf}
-use Rattle.model.specs.NetworkFile.{Index, bodyAt, boxOf, wiresOf, shapeAt, boxAt, netOf}
+use Rattle.model.specs.NetworkFile.{Index, bodyAt, boxOf, wiresOf, shapeAt, boxAt, ruleAt, netOf}
 use Rattle.model.specs.Cycles.{Deed, reads, look, moves, envOf, result, newVars, readsOf, sentOf, keptOf, deedOf, act}
 use Rattle.shapes.specs.Shapes.{wiresIn, typesIn, shapeIn}
 use Rattle.shapes.specs.declared.Arity.{Arity}
@@ -25,7 +25,6 @@ use Rattle.typing.proofs.Wholes.{ins-read}
 use Rattle.evaluation.specs.Envs.{envIn}
 use Rattle.table.specs.declared.Counts.{Counts}
 use Rattle.table.specs.Table.{indexIn}
-use Rattle.lookup.specs.Entries.{ruleEntry, rulesIn}
 use Rattle.places.specs.Standing.{netIn, Standing, stateOf}
 use Rattle.moves.specs.Moves.{Became}
 use Rattle.sights.specs.declared.View.{View}
@@ -43,9 +42,9 @@ use Rattle.taking.specs.Reading.{readFrom}
 use Rattle.putting.specs.Putting.{sentFrom, newFrom}
 use Rattle.firing.specs.Firing.{deedAt, Sound, deedIn, Works}
 
-module _ (s t p ts b : List ℕ) (c : Counts) (h : Standing s t p ts b c) (k : ℕ) (l : k < c .boxes) (o : ℕ) (e : o ≡ getD t (64 + k) 0)
+module _ (s t p ts b : List ℕ) (c : Counts) (h : Standing s t p ts b c) (k : ℕ) (l : k < c .boxes) (o : ℕ) (e : o ≡ getD (indexIn t c .boxes) k 0)
     (ins outs vs : List ℕ) (a : Arity) (d : shapeIn ins outs vs a ≡ shapeOf (wiresIn s t (c .wires)) (boxOf (bodyAt s o)))
-    (r : ℕ) (m : r < rulesIn t (c .boxes) (c .rules) k) (body : List ℕ) (eb : body ≡ bodyAt s (ruleEntry t k r)) where
+    (r : ℕ) (m : r < length ((boxAt s (indexIn t c) k) .rules)) (body : List ℕ) (eb : body ≡ bodyAt s (ruleAt (indexIn t c) k r)) where
   abbrev x : Index
   x = indexIn t c
 

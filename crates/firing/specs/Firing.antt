@@ -16,7 +16,6 @@ use Rattle.rules.specs.declared.Parts.{Parts}
 use Rattle.types.specs.Scopes.{scopeIn}
 use Rattle.evaluation.specs.Envs.{EnvFits}
 use Rattle.table.specs.declared.Counts.{Counts}
-use Rattle.lookup.specs.Entries.{rulesIn}
 use Rattle.actions.proofs.Acting.{Ready}
 use Rattle.taking.specs.Reading.{readFrom, CanRead}
 use Rattle.putting.specs.Putting.{sentFrom, newFrom}
@@ -32,10 +31,10 @@ pub record Sound (n : Net) (s : State) (k : ℕ) (d : Deed) : Type 0 where
   pub fit : (w : ℕ) → tokensFit ((wire n w) .ty) (onWire w (d .put)) ≡ true
   pub keeps : GoodOwn n (proc n k) (d .keeps)
 
--- box k has a rule r, and can fire under it; t is the table
-pub record BoxReady (t : List ℕ) (c : Counts) (n : Net) (s : State) (k r : ℕ) : Type 0 where
+-- box k, which is b, has a rule r, and can fire under it
+pub record BoxReady (b : Box) (c : Counts) (n : Net) (s : State) (k r : ℕ) : Type 0 where
   pub known : k < c .boxes
-  pub there : r < rulesIn t (c .boxes) (c .rules) k
+  pub there : r < length (b .rules)
   pub sound : Sound n s k (deedAt n k r s)
 
 -- process k was marked by rule r in the state of the cycle's start, still keeps what it kept there, and its deed can be done

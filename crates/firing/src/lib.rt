@@ -76,15 +76,15 @@ pub fn fire_box(
     state: &mut [u8],
 )
     requires { ⌜ Standing (now net) (now table) (now starts) (now tokens) (now state) c ⌝ }
-    requires { ⌜ BoxReady (now table) c (netIn (now net) (now table) c (now tokens)) (stateOf (now net) (now table) c (now tokens) (now state)) (k .0) (r .0) ⌝ }
+    requires { ⌜ BoxReady (boxAt (now net) (indexIn (now table) c) (k .0)) c (netIn (now net) (now table) c (now tokens)) (stateOf (now net) (now table) c (now tokens) (now state)) (k .0) (r .0) ⌝ }
     ensures { λ _. ⌜ Became (now (net .entry)) (now (table .entry)) (now (starts .entry)) (now (tokens .entry)) (now (state .entry)) c (now (state .exit)) (fired (netIn (now (net .entry)) (now (table .entry)) c (now (tokens .entry))) (k .0) (r .0) (stateOf (now (net .entry)) (now (table .entry)) c (now (tokens .entry)) (now (state .entry)))) ⌝ }
 {
     let mut ins = [0u8; 8];
     let mut outs = [0u8; 8];
     let mut vars = [0u8; 8];
-    let at = octets::entry(table, 64 + octets::wide(k.0));
+    let at = lookup::box_at(net, table, c, k);
     let a = shapes::shape_of(net, table, c.wires, at, &mut ins, &mut outs, &mut vars);
-    let body = lookup::rule_body(net, table, k, r);
+    let body = lookup::rule_body(net, table, c, k, r);
     let Layout::Whole { parts } = rules::parts_of(body, a) else {
         return;
     };

@@ -1,3 +1,3 @@
 -- What the contracts of lookup, and of the crates above it, cite beside the model.
-pub mod Entries
+pub mod Ends
 pub mod Tabled

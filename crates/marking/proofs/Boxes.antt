@@ -13,10 +13,10 @@ use Rattle.model.specs.Expressions.{Read, Scope, expression, typeAt}
 use Rattle.model.specs.Rules.{Rule, Shape, Pattern, matchedTypes, readRule, ruleRead, isWhole, scopeOf}
 use Rattle.model.specs.Network.{Wire, Variable, Box, shapeOf, rule, wireTypes, variableTypes}
 use Rattle.model.specs.NetworkFile.{Index, bodyAt, boxOf, wiresOf, shapeAt, boxAt, ruleIn, ruleForm, ruleLimits, ruleAt, tabulate}
-use Rattle.model.proofs.Accepted.{RuleField, InFile}
+use Rattle.model.proofs.Accepted.{RuleField}
 use Rattle.model.proofs.Decoded.{Each, GoodType, GoodRule, GoodBox, length-tabulate, shape-ins, shape-vars, rule-good}
 use Rattle.model.proofs.Tests.{and₅}
-use Rattle.model.proofs.Lookup.{rules-length, rule-at}
+use Rattle.model.proofs.Lookup.{rule-at}
 use Rattle.shapes.specs.Shapes.{wiresIn, BoxFits, typesIn, shapeIn}
 use Rattle.shapes.specs.declared.Arity.{Arity}
 use Rattle.rules.specs.declared.Parts.{Parts}
@@ -29,9 +29,8 @@ use Rattle.typing.specs.Fits.{scopeRead, listRead, Kept}
 use Rattle.table.specs.declared.Counts.{Counts}
 use Rattle.table.specs.Table.{indexIn, region}
 use Rattle.table.proofs.Lengths.{box-fits}
-use Rattle.lookup.specs.Entries.{ruleEntry, rulesIn}
 use Rattle.lookup.specs.Tabled.{Tabled}
-use Rattle.lookup.proofs.Tabled.{valid, n-wires, n-boxes, box-entry, rules-in, rule-known, rule-entry, rule-inside}
+use Rattle.lookup.proofs.Tabled.{valid, n-boxes, rule-known}
 use Rattle.actions.proofs.Worked.{Judged, rule-judged}
 use Rattle.trying.specs.Working.{Ruled, Rules}
 use Rattle.sights.proofs.Ports.{box-is}
@@ -67,16 +66,13 @@ module _ (s t : List ℕ) (c : Counts) (h : Tabled s t c) (k : ℕ) (l : k < c .
   here : k < length (x .boxes)
   here = omega (arith, l, n-boxes s t c h)
 
-  module _ (o : ℕ) (e : o ≡ getD t (64 + k) 0) where
-    at-box : o ≡ getD (x .boxes) k 0
-    at-box = e ∙ sym (box-entry s t c h k l)
-
+  module _ (o : ℕ) (e : o ≡ getD (x .boxes) k 0) where
     pub box-ready : BoxFits s o
-    box-ready = rw at-box (box-fits s (length (x .wires)) k (getD (x .boxes) k 0) (valid s t c h .boxes k here))
+    box-ready = rw e (box-fits s (length (x .wires)) k (getD (x .boxes) k 0) (valid s t c h .boxes k here))
 
     shape-is : shapeOf (wiresIn s t (c .wires)) (boxOf (bodyAt s o)) ≡ shapeAt s x k
     unfolding shapeAt wiresOf wiresIn indexIn region
-    shape-is = ap (λ (j : ℕ). shapeOf (wiresIn s t (c .wires)) (boxOf (bodyAt s j))) at-box
+    shape-is = ap (λ (j : ℕ). shapeOf (wiresIn s t (c .wires)) (boxOf (bodyAt s j))) e
 
     module _ (ins outs vars : List ℕ) (a : Arity) (d : shapeIn ins outs vars a ≡ shapeOf (wiresIn s t (c .wires)) (boxOf (bodyAt s o))) where
       abbrev sh : Shape
@@ -110,27 +106,24 @@ module _ (s t : List ℕ) (c : Counts) (h : Tabled s t c) (k : ℕ) (l : k < c .
       unfolding shapeAt shapeOf boxAt
       few-vars = omega (arith, many vars (a .vars) vars-types, variable-types ((boxOf (bodyAt s (getD (x .boxes) k 0))) .vars), box-is s t c h k l .few-vars)
 
-      few-rules : (n : ℕ) → n ≡ rulesIn t (c .boxes) (c .rules) k → n ≤ 16
-      few-rules n e = omega (arith, e, rules-in s t c h k l, rules-length s x [] k, box-is s t c h k l .few-rules)
-
       -- the rules are read with the shape's counts
       pub read-is : (b : List ℕ) → readRule (a .ins) (a .outs) (a .vars) b ≡ ruleIn sh b
       unfolding ruleIn
       read-is b = rw (many ins (a .ins) ins-types, many outs (a .outs) outs-types, many vars (a .vars) vars-types)
 
-      module _ (r : ℕ) (m : r < rulesIn t (c .boxes) (c .rules) k) where
+      module _ (r : ℕ) (m : r < length ((boxAt s x k) .rules)) where
         abbrev b : List ℕ
-        b = bodyAt s (ruleEntry t k r)
+        b = bodyAt s (ruleAt x k r)
 
-        field : RuleField s sh (ruleEntry t k r)
-        field = rw (← rule-entry s t c h k r l m) (valid s t c h .rules k r here (rule-known s t c h k r l m))
+        field : RuleField s sh (ruleAt x k r)
+        field = valid s t c h .rules k r here (rule-known s t c h k r l m)
 
         pub good : GoodRule sh (ruleRead (ruleIn sh b))
-        good = rule-good s sh (ruleEntry t k r) field
+        good = rule-good s sh (ruleAt x k r) field
 
         -- the rule of the box
         pub rule-is : ruleRead (readRule (a .ins) (a .outs) (a .vars) b) ≡ rule (boxAt s x k) r
-        rule-is = ap ruleRead (read-is b) ∙ ap (λ (j : ℕ). ruleRead (ruleIn sh (bodyAt s j))) (sym (rule-entry s t c h k r l m)) ∙ sym (rule-at s x [] k r (rule-known s t c h k r l m))
+        rule-is = ap ruleRead (read-is b) ∙ sym (rule-at s x [] k r (rule-known s t c h k r l m))
 
         pub parts-here : Parted a b
         unfolding ruleForm
@@ -169,11 +162,13 @@ module _ (s t : List ℕ) (c : Counts) (h : Tabled s t c) (k : ℕ) (l : k < c .
           good-vars = rw vars-types (shape-vars s x (valid s t c h) k here);
         }
 
-      pub rules-ready : (n : ℕ) → n ≡ rulesIn t (c .boxes) (c .rules) k → Rules s t k n a ins vars
-      rules-ready n e = record {
-        few = few-rules n e;
+      pub rules-ready : (n : ℕ) → n ≡ length ((boxAt s x k) .rules) → Rules s t c k n a ins vars
+      rules-ready n f = record {
+        tabled = h;
+        known = l;
+        there = omega (arith, f);
+        few = omega (arith, f, box-is s t c h k l .few-rules);
         few-ins = few-ins;
         few-vars = few-vars;
-        inside = λ r m. rule-inside s t c h k r l (omega (arith, m, e));
-        ruled = λ r m. ruled r (omega (arith, m, e));
+        ruled = λ r m. ruled r (omega (arith, m, f));
       }

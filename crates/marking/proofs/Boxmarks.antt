@@ -10,19 +10,18 @@ use lib.ListN.{length, getD, List·getD-append}
 use Rattle.model.specs.Bytes.{valueAt}
 use Rattle.model.specs.Rules.{Rule, Pattern, ignore, patternOf, Shape, ruleRead, readRule}
 use Rattle.model.specs.Network.{Box, Net, State, Proc, box, Own, vars, proc, own, varsOf, rule, shapeOf}
-use Rattle.model.specs.NetworkFile.{Index, bodyAt, boxOf, wiresOf, shapeAt, boxAt, netOf, ruleIn}
+use Rattle.model.specs.NetworkFile.{Index, bodyAt, boxOf, wiresOf, shapeAt, boxAt, netOf, ruleAt}
 use Rattle.model.specs.Expressions.{valueOf}
 use Rattle.model.specs.Cycles.{Mark, attempt, guarded, readyRule, orElse, first, upFrom, tried, tryRule, markOf, mark, envOf, look, reads}
 use Rattle.model.proofs.Decoded.{GoodRule, GoodBox}
 use Rattle.model.proofs.Kept.{GoodState, GoodOwn}
-use Rattle.model.proofs.Lookup.{box-proc, procs-length, rules-length}
+use Rattle.model.proofs.Lookup.{box-proc, procs-length}
 use Rattle.shapes.specs.Shapes.{wiresIn, typesIn, shapeIn}
 use Rattle.shapes.specs.declared.Arity.{Arity}
 use Rattle.rules.proofs.Laying.{ruleIs, rule-read}
 use Rattle.table.specs.declared.Counts.{Counts}
 use Rattle.table.specs.Table.{indexIn}
-use Rattle.lookup.specs.Entries.{ruleEntry, rulesIn}
-use Rattle.lookup.proofs.Tabled.{n-boxes, rules-in}
+use Rattle.lookup.proofs.Tabled.{n-boxes}
 use Rattle.actions.proofs.Worked.{rule-judged}
 use Rattle.places.specs.Standing.{tokensOf, netIn, Standing, stateOf}
 use Rattle.places.proofs.Standing.{state-good}
@@ -75,15 +74,15 @@ module _ (s t p ts b : List ℕ) (c : Counts) (h : Standing s t p ts b c) (k : �
       let g : GoodOwn N (proc N k) (own S k) = state-good s t p ts b c h .kept k (omega (arith, here, procs-length s x (tokensOf s t c ts))) in
       (rw proc-is at g) .number
 
-  module _ (o : ℕ) (e : o ≡ getD t (64 + k) 0) (ins outs vars : List ℕ) (a : Arity) (d : shapeIn ins outs vars a ≡ shapeOf (wiresIn s t (c .wires)) (boxOf (bodyAt s o))) where
-    module _ (r : ℕ) (m : r < rulesIn t (c .boxes) (c .rules) k) where
+  module _ (o : ℕ) (e : o ≡ getD (x .boxes) k 0) (ins outs vars : List ℕ) (a : Arity) (d : shapeIn ins outs vars a ≡ shapeOf (wiresIn s t (c .wires)) (boxOf (bodyAt s o))) where
+    module _ (r : ℕ) (m : r < length (B .rules)) where
       abbrev ru : Rule
-      ru = ruleRead (readRule (a .ins) (a .outs) (a .vars) (bodyAt s (ruleEntry t k r)))
+      ru = ruleRead (readRule (a .ins) (a .outs) (a .vars) (bodyAt s (ruleAt x k r)))
 
       good-here : GoodRule (shapeAt s x k) ru
-      good-here = rw (read-is s t c (h .tabled) k l o e ins outs vars a d (bodyAt s (ruleEntry t k r))) (good s t c (h .tabled) k l o e ins outs vars a d r m)
+      good-here = rw (read-is s t c (h .tabled) k l o e ins outs vars a d (bodyAt s (ruleAt x k r))) (good s t c (h .tabled) k l o e ins outs vars a d r m)
 
-      ready : Ruled a ins vars (bodyAt s (ruleEntry t k r))
+      ready : Ruled a ins vars (bodyAt s (ruleAt x k r))
       ready = ruled s t c (h .tabled) k l o e ins outs vars a d r m
 
       tags : (i : ℕ) → i < length (ru .ins) → tagged (getD (ru .ins) i ignore) ≡ true
@@ -91,7 +90,7 @@ module _ (s t p ts b : List ℕ) (c : Counts) (h : Standing s t p ts b c) (k : �
           let all = (ruleIs (ready .laid)) .ins ++ (ruleIs (ready .laid)) .vars in
           let e′ : ru ≡ ruleIs (ready .laid) = unfold ruleRead in rw (rule-read (ready .laid)) in
           let j : i < length ((ruleIs (ready .laid)) .ins) = rw e′ at q in
-          let w = pattern-stands a (bodyAt s (ruleEntry t k r)) (ready .parts) (ready .laid) i (omega (arith, j, ins-length a (bodyAt s (ruleEntry t k r)) (ready .parts) (ready .laid))) in
+          let w = pattern-stands a (bodyAt s (ruleAt x k r)) (ready .parts) (ready .laid) i (omega (arith, j, ins-length a (bodyAt s (ruleAt x k r)) (ready .parts) (ready .laid))) in
           rw e′ (ap tagged (sym (w .is ∙ List·getD-append ((ruleIs (ready .laid)) .ins) ((ruleIs (ready .laid)) .vars) ignore i j)) ∙ tag-known _ _)
 
       pub suits : Suits N B vs ru
@@ -113,9 +112,8 @@ module _ (s t p ts b : List ℕ) (c : Counts) (h : Standing s t p ts b c) (k : �
           rw (ins-types s t c (h .tabled) k l o e ins outs vars a d, vars-types s t c (h .tabled) k l o e ins outs vars a d)
           (trial-same N S B vs v q ru suits r ∙ ap (λ (y : Rule). attempt (readyRule N S B y vs) (guarded (envOf N B y (look S (B .ins) (map reads (y .ins))) vs) y r (valueOf (envOf N B y (look S (B .ins) (map reads (y .ins))) vs) (y .guard)))) (rule-is s t c (h .tabled) k l o e ins outs vars a d r m))
 
-    pub box-marked : {q : Tried} (v : View) → Seen N S B vs v → (n : ℕ) → n ≡ rulesIn t (c .boxes) (c .rules) k
-        → q ≡ markAs (first (λ r. tryOn (typesIn ins (a .ins)) (typesIn vars (a .vars)) (v .heads) (v .full) (v .vals) (ruleRead (readRule (a .ins) (a .outs) (a .vars) (bodyAt s (ruleEntry t k r)))) r) (upFrom 0 n))
+    pub box-marked : {q : Tried} (v : View) → Seen N S B vs v → (n : ℕ) → n ≡ length (B .rules)
+        → q ≡ markAs (first (λ r. tryOn (typesIn ins (a .ins)) (typesIn vars (a .vars)) (v .heads) (v .full) (v .vals) (ruleRead (readRule (a .ins) (a .outs) (a .vars) (bodyAt s (ruleAt x k r)))) r) (upFrom 0 n))
         → q ≡ markAs (mark N S k)
     box-marked v g n f q =
-        let z : n ≡ length (B .rules) = f ∙ rules-in s t c (h .tabled) k l ∙ sym (rules-length s x [] k) in
-        q ∙ ap markAs (first-same _ (tryRule N S B vs) 0 n (λ r i. trial-is r (omega (arith, i, f)) v g) ∙ ap (λ (j : ℕ). first (tryRule N S B vs) (upFrom 0 j)) z ∙ sym mark-is)
+        q ∙ ap markAs (first-same _ (tryRule N S B vs) 0 n (λ r i. trial-is r (omega (arith, i, f)) v g) ∙ ap (λ (j : ℕ). first (tryRule N S B vs) (upFrom 0 j)) f ∙ sym mark-is)

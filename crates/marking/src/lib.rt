@@ -39,14 +39,26 @@ pub fn mark_box(
     let mut ins = [0u8; 8];
     let mut outs = [0u8; 8];
     let mut vars = [0u8; 8];
-    let at = octets::entry(table, 64 + octets::wide(k.0));
+    let at = lookup::box_at(net, table, c, k);
     let a = shapes::shape_of(net, table, c.wires, at, &mut ins, &mut outs, &mut vars);
     let v = sights::view_of(net, table, c, starts, tokens, k, state);
     let heads = v.heads;
     let full = v.full;
     let vals = v.vals;
-    let count = lookup::rules_of(table, c.boxes, c.rules, k);
-    trying::search(net, table, k, count, a, &ins, &vars, &heads, &full, &vals)
+    let count = lookup::rules_of(net, table, c, k);
+    trying::search(
+        net,
+        table,
+        c,
+        k,
+        count,
+        a,
+        &ins,
+        &vars,
+        &heads,
+        &full,
+        &vals,
+    )
 }
 
 // The mark of an input or output, said as a box's.

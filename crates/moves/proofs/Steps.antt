@@ -30,10 +30,11 @@ use Rattle.queues.specs.Segments.{putMid}
 use Rattle.queues.specs.Queues.{WireHeld, WireRoom, GotRoom, popBytes, pushBytes, gotBytes}
 use Rattle.queues.proofs.Queues.{pop-wire, pop-held, push-wire, push-room, length-snoc, length-values, box-put, taken-count, taken-put, push-output, got-room}
 use Rattle.queues.proofs.Reading.{fits-sane}
-use Rattle.lookup.proofs.Tabled.{n-boxes, n-inputs}
+use Rattle.lookup.specs.Ends.{wireAt, roomAt}
+use Rattle.lookup.proofs.Tabled.{input-is}
 use Rattle.places.specs.Standing.{tokensOf, netIn, Standing, stateOf}
 use Rattle.places.proofs.Standing.{net-all, state-good, file-few}
-use Rattle.moves.specs.Moves.{CanTake, CanPut, CanKeep, CanCount, CanReceive, variableType, tokensAt, roomAt, wireAt, CountRoom, countBytes}
+use Rattle.moves.specs.Moves.{CanTake, CanPut, CanKeep, CanCount, CanReceive, variableType, tokensAt, CountRoom, countBytes}
 use Rattle.moves.proofs.Laws.{WireStep, OwnStep, wires-n, procs-n}
 
 -- ── a wire ───────────────────────────────────────────────────────────────────────────────────
@@ -158,14 +159,8 @@ module _ (s t p ts b : List ℕ) (c : Counts) (h : Standing s t p ts b c) where
 
   -- an input has few tokens
   tokens-short : (k : ℕ) → c .boxes ≤ k → k < c .boxes + c .inputs → length (tokensAt (proc n k)) ≤ 16384
-  unfolding netIn tokensAt inputAt
-  tokens-short k l m =
-      let i = k - c .boxes in
-      let q = tokensOf s t c ts in
-      let e : k ≡ length (indexIn t c .boxes) + i = omega (arith, l, n-boxes s t c (h .tabled)) in
-      let g : length (tokensAt (proc n k)) ≡ length (getD q i []) =
-      ap (λ (j : ℕ). length (tokensAt (proc n j))) e ∙ ap (λ (x : Proc). length (tokensAt x)) (input-proc s (indexIn t c) q i (omega (arith, l, m, n-inputs s t c (h .tabled)))) in
-      omega (arith, g, file-few s t p ts b c h i)
+  unfolding netIn tokensAt
+  tokens-short k l m = omega (arith, ap (λ (x : Proc). length (tokensAt x)) (input-is s t c (h .tabled) k l m (tokensOf s t c ts)), file-few s t p ts b c h (k - c .boxes))
 
   pub count-here : (k : ℕ) → CanCount c n st k → OwnStep n (proc n k) CountRoom countBytes (own st k) (taken (suc (takenOf (own st k))))
   count-here k a =

@@ -14,6 +14,7 @@ use Rattle.model.specs.Network.{Proc, box, input, output, Net, Own, vars, taken
 use Rattle.model.specs.States.{tokenFits, stateSize}
 use Rattle.model.proofs.Decoded.{noVariable}
 use Rattle.table.specs.declared.Counts.{Counts}
+use Rattle.lookup.specs.Ends.{wireAt, roomAt}
 use Rattle.places.specs.Standing.{netIn, Standing, stateOf}
 
 -- ── another queue, other contents ────────────────────────────────────────────────────────────
@@ -50,16 +51,6 @@ unfoldable pub tokensAt : Proc → List Token  -- the tokens of an input
 tokensAt (box b) = []
 tokensAt (input w ts) = ts
 tokensAt (output w room) = []
-
-unfoldable pub roomAt : Proc → ℕ  -- the room of an output
-roomAt (box b) = 0
-roomAt (input w ts) = 0
-roomAt (output w room) = room
-
-unfoldable pub wireAt : Proc → ℕ  -- the wire of an input or an output
-wireAt (box b) = 0
-wireAt (input w ts) = w
-wireAt (output w room) = w
 
 -- wire w holds a token
 pub record CanTake (c : Counts) (s : State) (w : ℕ) : Type 0 where

@@ -2,7 +2,7 @@
 -- Assumes nothing.
 use mathlib.Core.Path.{_≡_, refl, sym, ap, _∙_, subst}
 use mathlib.Core.Bool.{Bool, true, false, cond, _&&_}
-use mathlib.Core.List.{List}
+use mathlib.Core.List.{List, []}
 use Prim.Native.Nat.{ℕ, _+_, _-_, _≤_, _<_}
 use native.Mathlib.Omega.{arith}
 use lib.Dec.{ltb}
@@ -10,17 +10,17 @@ use lib.ListN.{length, getD}
 use denote.Ref.{RefT}
 use borrow.Author.Tests.{lt-ltb, le-ltb}
 use Rattle.model.specs.Bytes.{twoAt}
-use Rattle.model.specs.NetworkFile.{Index, Stretch, good, refuse, network, rulesEnd, ruleAt, ruleStretch}
+use Rattle.model.specs.NetworkFile.{Index, Stretch, good, refuse, network, boxAt, rulesEnd, ruleAt, ruleStretch}
 use Rattle.model.specs.Calls.{bodyCall}
+use Rattle.model.proofs.Lookup.{rules-length}
 use Rattle.table.specs.declared.Counts.{Counts}
 use Rattle.table.specs.Table.{indexIn}
 use Rattle.index.specs.declared.Checked.{Checked}
 use Rattle.index.specs.declared.Checked.the-variants as checked
 use Rattle.index.specs.Verdicts.{verdictIn, Fit}
 use Rattle.octets.specs.Part.{PartOf}
-use Rattle.lookup.specs.Entries.{ruleEntry, rulesIn}
 use Rattle.lookup.specs.Tabled.{Tabled}
-use Rattle.lookup.proofs.Tabled.{n-boxes, rules-in, rule-known, rule-entry}
+use Rattle.lookup.proofs.Tabled.{n-boxes}
 
 -- a part that lies where the lookup says
 pub lies : (p r : RefT (List ℕ)) (b k start len : ℕ) → bodyCall (p .now) b k ≡ record { start = start; len = len } → PartOf p start len r
@@ -48,12 +48,12 @@ module _ (s t : List ℕ) (c : Counts) (h : Tabled s t c) (b r : ℕ) where
   unfolding bodyCall ruleStretch
   no-box l = rw (h .found, le-ltb b (length (x .boxes)) (omega (arith, n-boxes s t c h))) refl
 
-  pub no-rule : b < c .boxes → rulesIn t (c .boxes) (c .rules) b ≤ r → bodyCall s b r ≡ record { start = length s; len = 0 }
+  pub no-rule : b < c .boxes → length ((boxAt s x b) .rules) ≤ r → bodyCall s b r ≡ record { start = length s; len = 0 }
   unfolding bodyCall ruleStretch
   no-rule l m =
-      rw (h .found, lt-ltb b (length (x .boxes)) (omega (arith, n-boxes s t c h)), le-ltb (getD (x .firsts) b 0 + r) (rulesEnd x b) (omega (arith, m, rules-in s t c h b l))) refl
+      rw (h .found, lt-ltb b (length (x .boxes)) (omega (arith, n-boxes s t c h)), le-ltb (getD (x .firsts) b 0 + r) (rulesEnd x b) (omega (arith, m, rules-length s x [] b))) refl
 
-  pub known : b < c .boxes → r < rulesIn t (c .boxes) (c .rules) b → bodyCall s b r ≡ record { start = ruleEntry t b r + 3; len = twoAt s (ruleEntry t b r + 1) }
+  pub known : b < c .boxes → r < length ((boxAt s x b) .rules) → bodyCall s b r ≡ record { start = ruleAt x b r + 3; len = twoAt s (ruleAt x b r + 1) }
   unfolding bodyCall ruleStretch
   known l m =
-      rw (h .found, lt-ltb b (length (x .boxes)) (omega (arith, n-boxes s t c h)), lt-ltb (getD (x .firsts) b 0 + r) (rulesEnd x b) (rule-known s t c h b r l m), rule-entry s t c h b r l m) refl
+      rw (h .found, lt-ltb b (length (x .boxes)) (omega (arith, n-boxes s t c h)), lt-ltb (getD (x .firsts) b 0 + r) (rulesEnd x b) (omega (arith, m, rules-length s x [] b))) refl

@@ -60,15 +60,14 @@ fn body_in<'a>(net: &'a [u8], table: &[u16], c: Counts, b: ProcessId, r: RuleId)
     ensures { λ x. ⌜ PartOf (net .entry) ((bodyCall (now (net .entry)) (b .0) (r .0)) .start) ((bodyCall (now (net .entry)) (b .0) (r .0)) .len) x ⌝ }
 {
     let end = net.len();
-    let boxes = c.boxes;
-    if boxes <= octets::wide(b.0) {
+    if c.boxes <= octets::wide(b.0) {
         return octets::part(net, end, 0);
     }
-    let rules = lookup::rules_of(table, boxes, c.rules, b);
+    let rules = lookup::rules_of(net, table, c, b);
     if rules <= octets::wide(r.0) {
         return octets::part(net, end, 0);
     }
-    lookup::rule_body(net, table, b, r)
+    lookup::rule_body(net, table, c, b, r)
 }
 
 // The body of rule r of box b, that very part of the file; empty at the file's end for an unknown box or rule and for a refused network.

@@ -10,11 +10,11 @@ use lib.ListN.{length, getD, take, drop, length-append, length-map, length-drop,
 use lib.Seq.{take-add, take-all, take-at, drop-at, drop-cons, drop-drop, drop-append-seam, take-append-seam, length-take-le, getD-take, getD-drop}
 use Rattle.model.specs.Bytes.{twoAt}
 use Rattle.model.specs.Network.{Proc, box, output, Net, proc, wire, nobody}
-use Rattle.model.specs.NetworkFile.{Index, boxAt, inputAt, outputAt, netOf}
+use Rattle.model.specs.NetworkFile.{Index, boxAt, inputAt, netOf}
 use Rattle.model.specs.States.{ownSize, wiresSize, sum, cat, split, ownIn, readTokens, roomFits, ownFits, stateFits, stateIn, outputField, outputFile}
 use Rattle.model.proofs.Tests.{and-left, and-right}
 use Rattle.model.proofs.Decoded.{length-tabulate, getD-map-lt}
-use Rattle.model.proofs.Lookup.{output-proc, procs-length}
+use Rattle.model.proofs.Lookup.{procs-length}
 use Rattle.model.proofs.Sizes.{map-append}
 use Rattle.table.specs.declared.Counts.{Counts}
 use Rattle.table.specs.Table.{indexIn}
@@ -24,11 +24,11 @@ use Rattle.queues.proofs.Segments.{start-first}
 use Rattle.queues.proofs.Reading.{octets-take, octets-drop, length-read}
 use Rattle.queues.proofs.Whole.{own-in}
 use Rattle.lookup.specs.Tabled.{Tabled}
-use Rattle.lookup.proofs.Tabled.{n-boxes, n-inputs, n-outputs, output-entry}
+use Rattle.lookup.specs.Ends.{wireAt, roomAt}
+use Rattle.lookup.proofs.Tabled.{n-boxes, n-inputs, n-outputs, output-is, output-good}
 use Rattle.tokens.specs.Parts.{fieldBytes}
 use Rattle.tokens.proofs.Lifts.{output-needs, field-in, fits-output, length-field}
 use Rattle.tokens.proofs.Turns.{start-turn, start-all, boxesOf, inputsOf, outputsOf, fileOf, file-net}
-use Rattle.token_file.proofs.Ends.{output-in}
 use Rattle.states.specs.Saved.{wiresFit, ownsFit}
 use Rattle.states.proofs.Fits.{owns-turn, state-is}
 use Rattle.places.specs.Standing.{bareNet}
@@ -92,31 +92,25 @@ module _ (s t p st : List ℕ) (c : Counts) (h : Saved s t p st c) (o : Octets s
   pub in-procs : k < length (n .procs)
   in-procs = omega (arith, procs-length s x [], n-boxes s t c (h .tabled), n-inputs s t c (h .tabled), n-outputs s t c (h .tabled), q .most)
 
-  abbrev i : ℕ
-  i = k - (c .boxes + c .inputs)
+  abbrev w : ℕ
+  w = wireAt (proc n k)
 
-  abbrev at : ℕ
-  at = getD t (648 + i) 0
+  abbrev room : ℕ
+  room = roomAt (proc n k)
 
-  is-output : proc n k ≡ output (getD s (at + 3) 0) (twoAt s (at + 4))
-  unfolding outputAt
-  is-output =
-      let m : k ≡ length (x .boxes) + length (x .inputs) + i = omega (arith, n-boxes s t c (h .tabled), n-inputs s t c (h .tabled), q .least) in
-      ap (proc n) m ∙ output-proc s x [] i (omega (arith, n-outputs s t c (h .tabled), q .least, q .most))
-      ∙ ap (λ (j : ℕ). output (getD s (j + 3) 0) (twoAt s (j + 4))) (output-entry s t c (h .tabled) i (omega (arith, q .least, q .most)))
+  is-output : proc n k ≡ output w room
+  is-output = output-is s t c (h .tabled) k (q .least) (q .most) []
 
   pub output-at : OutputPart n st k part
   unfolding fieldOn ownSize bareNet
   output-at =
-      let room : ℕ = twoAt s (at + 4) in
-      let w : ℕ = getD s (at + 3) 0 in
       let b : Octets part = octets-take (ownSize (proc n k)) (drop (ownStart n k) st) (octets-drop (ownStart n k) st o) in
       let size : ownSize (proc n k) ≡ 2 + 5 * room = ap ownSize is-output in
       let e : length (drop (ownStart n k) st) ≡ length st - ownStart n k = length-drop (ownStart n k) st in
       let long : length part ≡ 2 + 5 * room = length-take-le (ownSize (proc n k)) (drop (ownStart n k) st) (omega (arith, e, own-in n k in-procs, h .long)) ∙ size in
       let fits : roomFits ((wire n w) .ty) room (twoAt part 0) (drop 2 part) ≡ true =
       sym (fits-output n false w room part) ∙ ap (λ (v : Proc). ownFits n false v part) (sym is-output) ∙ own-true n st false (h .fits) k in-procs in
-      let few = output-needs ((wire n w) .ty) room part b (output-in s t c (h .tabled) i (omega (arith, q .least, q .most)) .most) long fits in
+      let few = output-needs ((wire n w) .ty) room part b (output-good s t c (h .tabled) k (q .least) (q .most) .2) long fits in
       let field : fieldBytes part ≡ outputField (proc n k) (ownIn (proc n k) part) = field-in w room part b (few .1) ∙ ap (λ (v : Proc). outputField v (ownIn v part)) (sym is-output) in
       record {
         few = few .0;
@@ -143,7 +137,7 @@ module _ (s t p st : List ℕ) (c : Counts) (h : Saved s t p st c) (o : Octets s
   pub count-at : (a r : ℕ) → a ≡ ownStart n k → r ≡ twoAt st a → r ≡ twoAt part 0
   unfolding twoAt ownSize
   count-at a r e f =
-      let size : ownSize (proc n k) ≡ 2 + 5 * twoAt s (at + 4) = ap ownSize is-output in
+      let size : ownSize (proc n k) ≡ 2 + 5 * room = ap ownSize is-output in
       let byte : (j : ℕ) → j < 2 → getD part j 0 ≡ getD st (ownStart n k + j) 0 = λ j l. getD-take (ownSize (proc n k)) (drop (ownStart n k) st) j 0 (omega (arith, l, size)) ∙ getD-drop (ownStart n k) st j 0 in
       let z : ownStart n k + 0 ≡ a = omega (arith, e) in
       f ∙ ap₂ (λ (u v : ℕ). u * 256 + v) (ap (λ (j : ℕ). getD st j 0) (sym z) ∙ sym (byte 0 (omega arith))) (ap (λ (j : ℕ). getD st (j + 1) 0) e ∙ sym (byte 1 (omega arith)))

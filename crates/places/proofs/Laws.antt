@@ -8,19 +8,19 @@ use native.Mathlib.Numerals.{add-one}
 use lib.ListN.{length, getD, take, drop, set, length-append, length-map, List·getD-append}
 use lib.Seq.{getD-append-add, take-suc, take-all, take-nil, getD-set-same, getD-set-other}
 use native.Mathlib.Decide.{ℕ-discrete}
-use Rattle.model.specs.Bytes.{twoAt}
-use Rattle.model.specs.Network.{Wire, Proc, box, input, output, Net, wire, proc, noWire, nobody}
-use Rattle.model.specs.NetworkFile.{Index, bodyAt, wireOf, boxOf, boxAt, inputAt, outputAt, netOf}
+use Rattle.model.specs.Network.{Net, wire, proc, noWire, nobody}
+use Rattle.model.specs.NetworkFile.{Index, bodyAt, boxOf, boxAt, netOf}
 use Rattle.model.specs.States.{wireSize, ownSize, sum, wiresSize, stateSize}
 use Rattle.model.proofs.Decoded.{getD-map-lt, length-tabulate}
-use Rattle.model.proofs.Lookup.{wire-at, box-proc, input-proc, output-proc, wires-length, procs-length}
+use Rattle.model.proofs.Lookup.{box-proc, wires-length, procs-length}
 use Rattle.model.proofs.Sizes.{state-most, sum-append}
 use Rattle.table.specs.declared.Counts.{Counts}
 use Rattle.table.specs.Table.{indexIn}
 use Rattle.queues.specs.Segments.{startOf, wireStart, ownStart}
 use Rattle.queues.proofs.Segments.{start-first, start-second}
 use Rattle.lookup.specs.Tabled.{Tabled}
-use Rattle.lookup.proofs.Tabled.{valid, n-wires, n-boxes, n-inputs, n-outputs, bare-good, wire-entry, box-entry, output-entry}
+use Rattle.lookup.specs.Ends.{roomAt}
+use Rattle.lookup.proofs.Tabled.{valid, n-wires, n-boxes, n-inputs, n-outputs, bare-good, input-is, output-is}
 use Rattle.places.specs.Places.{sizesOf, Placed, Placing, Spans, WireSpan, OwnSpan}
 use Rattle.places.specs.declared.Span.{Span}
 
@@ -80,13 +80,11 @@ module _ (s t : List ℕ) (c : Counts) (h : Tabled s t c) where
   pub sizes-most : sum (sizesOf n) ≤ 61088
   sizes-most = omega (arith, sizes-sum, state-most s x (valid s t c h) [] (bare-good s t c h))
 
-  pub size-wire : (j k : ℕ) → j < c .wires → k ≡ (wireOf s (getD t j 0)) .capacity → 1 + 5 * k ≡ getD (sizesOf n) j 0
+  pub size-wire : (j k : ℕ) → j < c .wires → k ≡ (wire n j) .capacity → 1 + 5 * k ≡ getD (sizesOf n) j 0
   unfolding sizesOf wireSize wire
   size-wire j k l e =
-      let w : wire n j ≡ wireOf s (getD t j 0) = wire-at s x [] j (omega (arith, n-wires s t c h)) ∙ ap (wireOf s) (wire-entry s t c h j l) in
       sym (List·getD-append (map wireSize (n .wires)) (map ownSize (n .procs)) 0 j (omega (arith, length-map (n .wires) wireSize, wires-n))
-      ∙ getD-map-lt wireSize (n .wires) j noWire 0 (omega (arith, wires-n))
-      ∙ ap (λ (v : Wire). 1 + 5 * v .capacity) w ∙ ap (λ (i : ℕ). 1 + 5 * i) (sym e))
+      ∙ getD-map-lt wireSize (n .wires) j noWire 0 (omega (arith, wires-n)) ∙ ap (λ (i : ℕ). 1 + 5 * i) (sym e))
 
   -- segment wires + k is process k's
   own-size : (k : ℕ) → k < c .boxes + c .inputs + c .outputs → getD (sizesOf n) (c .wires + k) 0 ≡ ownSize (proc n k)
@@ -96,24 +94,21 @@ module _ (s t : List ℕ) (c : Counts) (h : Tabled s t c) where
       ∙ getD-append-add (map wireSize (n .wires)) (map ownSize (n .procs)) k 0
       ∙ getD-map-lt ownSize (n .procs) k nobody 0 (omega (arith, procs-n))
 
-  pub size-box : (j k v : ℕ) → j ≡ c .wires + k → k < c .boxes → v ≡ getD (bodyAt s (getD t (64 + k) 0)) 2 0 → 4 * v ≡ getD (sizesOf n) j 0
-  unfolding ownSize boxAt boxOf
-  size-box j k v e l q =
-      rw e (sym (own-size k (omega arith) ∙ ap ownSize (box-proc s x [] k (omega (arith, n-boxes s t c h)))
-      ∙ ap (λ (i : ℕ). 4 * i) (length-tabulate (getD (bodyAt s (getD (x .boxes) k 0)) 2 0) _ ∙ ap (λ (o : ℕ). getD (bodyAt s o) 2 0) (box-entry s t c h k l) ∙ sym q)))
+  -- the sizes of a box, of an input and of an output
+  module _ (j k : ℕ) (e : j ≡ c .wires + k) where
+    pub size-box : (v : ℕ) → k < c .boxes → v ≡ getD (bodyAt s (getD (x .boxes) k 0)) 2 0 → 4 * v ≡ getD (sizesOf n) j 0
+    unfolding ownSize boxAt boxOf
+    size-box v l q =
+        rw e (sym (own-size k (omega arith) ∙ ap ownSize (box-proc s x [] k (omega (arith, n-boxes s t c h)))
+        ∙ ap (λ (i : ℕ). 4 * i) (length-tabulate (getD (bodyAt s (getD (x .boxes) k 0)) 2 0) _ ∙ sym q)))
 
-  pub size-input : (j i : ℕ) → j ≡ c .wires + (c .boxes + i) → i < c .inputs → 2 ≡ getD (sizesOf n) j 0
-  unfolding ownSize inputAt
-  size-input j i e l =
-      rw e (sym (own-size (c .boxes + i) (omega arith) ∙ ap (λ (k : ℕ). ownSize (proc n (k + i))) (sym (n-boxes s t c h)) ∙ ap ownSize (input-proc s x [] i (omega (arith, n-inputs s t c h)))))
+    pub size-input : c .boxes ≤ k → k < c .boxes + c .inputs → 2 ≡ getD (sizesOf n) j 0
+    unfolding ownSize
+    size-input from to = rw e (sym (own-size k (omega arith) ∙ ap ownSize (input-is s t c h k from to [])))
 
-  pub size-output : (j i v : ℕ) → j ≡ c .wires + (c .boxes + c .inputs + i) → i < c .outputs → v ≡ twoAt s (getD t (648 + i) 0 + 4) → 2 + 5 * v ≡ getD (sizesOf n) j 0
-  unfolding ownSize outputAt
-  size-output j i v e l q =
-      rw e (sym (own-size (c .boxes + c .inputs + i) (omega arith)
-      ∙ ap (λ (k : ℕ). ownSize (proc n (k + i))) (omega (arith, n-boxes s t c h, n-inputs s t c h))
-      ∙ ap ownSize (output-proc s x [] i (omega (arith, n-outputs s t c h)))
-      ∙ ap (λ (k : ℕ). 2 + 5 * k) (ap (λ (o : ℕ). twoAt s (o + 4)) (output-entry s t c h i l) ∙ sym q)))
+    pub size-output : (v : ℕ) → c .boxes + c .inputs ≤ k → k < c .boxes + c .inputs + c .outputs → v ≡ roomAt (proc n k) → 2 + 5 * v ≡ getD (sizesOf n) j 0
+    unfolding ownSize
+    size-output v from to q = rw e (sym (own-size k to ∙ ap ownSize (output-is s t c h k from to []) ∙ ap (λ (i : ℕ). 2 + 5 * i) (sym q)))
 
 -- ── the loop ─────────────────────────────────────────────────────────────────────────────────
 

@@ -18,18 +18,18 @@ pub fn segment_size(net: &[u8], table: &[u16], c: Counts, j: usize) -> usize
     ensures { λ r. ⌜ r ≡ getD (sizesOf (netOf (now (net .entry)) (indexIn (now (table .entry)) c) [])) j 0 ⌝ }
 {
     if j < c.wires {
-        return 1 + 5 * lookup::capacity(net, table, WireId(j as u8));
+        return 1 + 5 * lookup::capacity(net, table, c, WireId(j as u8));
     }
     let k = j - c.wires;
     if k < c.boxes {
-        let body = lookup::box_body(net, table, ProcessId(k as u8));
+        let body = lookup::box_body(net, table, c, ProcessId(k as u8));
         return 4 * octets::wide(octets::byte_at(body, 2));
     }
     let i = k - c.boxes;
     if i < c.inputs {
         return 2;
     }
-    2 + 5 * lookup::room(net, table, i - c.inputs)
+    2 + 5 * lookup::room(net, table, c, ProcessId(k as u8))
 }
 
 // Each segment's start, and the size of all.

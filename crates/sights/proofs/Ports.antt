@@ -1,6 +1,6 @@
 -- The wires of a box's ports, read from its body.
 -- Assumes nothing.
-use mathlib.Core.Path.{_≡_, sym, ap, _∙_}
+use mathlib.Core.Path.{_≡_, refl, sym, ap, _∙_}
 use mathlib.Core.List.{List}
 use Prim.Native.Nat.{ℕ, _+_, _<_}
 use native.Mathlib.Omega.{arith}
@@ -13,7 +13,7 @@ use Rattle.table.specs.Table.{indexIn}
 use Rattle.table.proofs.Lengths.{box-fits}
 use Rattle.shapes.specs.Shapes.{BodyFits}
 use Rattle.lookup.specs.Tabled.{Tabled}
-use Rattle.lookup.proofs.Tabled.{valid, n-wires, n-boxes, box-entry}
+use Rattle.lookup.proofs.Tabled.{valid, n-wires, n-boxes}
 
 module _ (s t : List ℕ) (c : Counts) (h : Tabled s t c) (k : ℕ) (l : k < c .boxes) where
   abbrev x : Index
@@ -27,18 +27,18 @@ module _ (s t : List ℕ) (c : Counts) (h : Tabled s t c) (k : ℕ) (l : k < c .
   wires-are = length-map (x .wires) (wireOf s) ∙ n-wires s t c h
 
   abbrev body : List ℕ
-  body = bodyAt s (getD t (64 + k) 0)
+  body = bodyAt s (getD (x .boxes) k 0)
 
   ins-are : (boxAt s x k) .ins ≡ stretch body 3 (getD body 0 0)
   unfolding boxAt boxOf
-  ins-are = ap (λ (o : ℕ). stretch (bodyAt s o) 3 (getD (bodyAt s o) 0 0)) (box-entry s t c h k l)
+  ins-are = refl
 
   outs-are : (boxAt s x k) .outs ≡ stretch body (3 + getD body 0 0) (getD body 1 0)
   unfolding boxAt boxOf
-  outs-are = ap (λ (o : ℕ). stretch (bodyAt s o) (3 + getD (bodyAt s o) 0 0) (getD (bodyAt s o) 1 0)) (box-entry s t c h k l)
+  outs-are = refl
 
   body-fits : BodyFits body
-  body-fits = rw (← box-entry s t c h k l) ((box-fits s (length (x .wires)) k (getD (x .boxes) k 0) (valid s t c h .boxes k (omega (arith, l, n-boxes s t c h)))) .body)
+  body-fits = (box-fits s (length (x .wires)) k (getD (x .boxes) k 0) (valid s t c h .boxes k (omega (arith, l, n-boxes s t c h)))) .body
 
   -- as many inputs and outputs as the body's first two bytes say
   ins-long : length ((boxAt s x k) .ins) ≡ getD body 0 0

@@ -70,7 +70,7 @@ pub fn in_wire(net: &[u8], table: &[u16], c: Counts, b: ProcessId, j: usize) -> 
     requires { ⌜ j < length ((boxAt (now net) (indexIn (now table) c) (b .0)) .ins) ⌝ }
     ensures { λ r. ⌜ (r .0 ≡ getD ((boxAt (now (net .entry)) (indexIn (now (table .entry)) c) (b .0)) .ins) j 0) × (r .0 < c .wires) ⌝ }
 {
-    let body = lookup::box_body(net, table, b);
+    let body = lookup::box_body(net, table, c, b);
     WireId(octets::byte_at(body, 3 + j))
 }
 
@@ -81,7 +81,7 @@ pub fn out_wire(net: &[u8], table: &[u16], c: Counts, b: ProcessId, j: usize) ->
     requires { ⌜ j < length ((boxAt (now net) (indexIn (now table) c) (b .0)) .outs) ⌝ }
     ensures { λ r. ⌜ (r .0 ≡ getD ((boxAt (now (net .entry)) (indexIn (now (table .entry)) c) (b .0)) .outs) j 0) × (r .0 < c .wires) ⌝ }
 {
-    let body = lookup::box_body(net, table, b);
+    let body = lookup::box_body(net, table, c, b);
     let ins = octets::wide(octets::byte_at(body, 0));
     WireId(octets::byte_at(body, 3 + ins + j))
 }
@@ -122,7 +122,7 @@ fn in_part<'a>(
     requires { ⌜ k .0 < c .boxes ⌝ }
     ensures { λ r. ⌜ AtPort ((boxAt (now (net .entry)) (indexIn (now (table .entry)) c) (k .0)) .ins) (λ w. wireBytes (wire (netIn (now (net .entry)) (now (table .entry)) c (now (tokens .entry))) w) (queue (stateOf (now (net .entry)) (now (table .entry)) c (now (tokens .entry)) (now (state .entry))) w)) j (now r) ⌝ }
 {
-    let body = lookup::box_body(net, table, k);
+    let body = lookup::box_body(net, table, c, k);
     if octets::wide(octets::byte_at(body, 0)) <= j {
         return &state[0..0];
     }
@@ -145,7 +145,7 @@ fn out_part<'a>(
     requires { ⌜ k .0 < c .boxes ⌝ }
     ensures { λ r. ⌜ AtPort ((boxAt (now (net .entry)) (indexIn (now (table .entry)) c) (k .0)) .outs) (λ w. wireBytes (wire (netIn (now (net .entry)) (now (table .entry)) c (now (tokens .entry))) w) (queue (stateOf (now (net .entry)) (now (table .entry)) c (now (tokens .entry)) (now (state .entry))) w)) j (now r) ⌝ }
 {
-    let body = lookup::box_body(net, table, k);
+    let body = lookup::box_body(net, table, c, k);
     if octets::wide(octets::byte_at(body, 1)) <= j {
         return &state[0..0];
     }

@@ -13,22 +13,22 @@ use Rattle.model.specs.declared.Ty.{Ty}
 use Rattle.model.specs.declared.Token.{Token}
 use Rattle.model.specs.Bytes.{twoAt}
 use Rattle.model.specs.Network.{Wire, Proc, box, input, output, Net, wire, proc, noWire, nobody}
-use Rattle.model.specs.NetworkFile.{Index, tabulate, bodyAt, wireOf, boxOf, inputAt, outputAt, netOf}
+use Rattle.model.specs.NetworkFile.{Index, tabulate, bodyAt, boxOf, inputAt, outputAt, netOf}
 use Rattle.model.specs.States.{tokensIn, wireSize, ownSize, wiresSize, sum, roomFits, wireFits, valuesFit, ownFits, split, allTrue, stateFits}
 use Rattle.model.proofs.Decoded.{getD-map-lt}
-use Rattle.model.proofs.Lookup.{wires-length, procs-length, box-proc, input-proc, output-proc}
+use Rattle.model.proofs.Lookup.{wires-length, procs-length, box-proc}
 use Rattle.table.specs.declared.Counts.{Counts}
 use Rattle.table.specs.Table.{indexIn}
 use Rattle.queues.specs.Segments.{mid, startOf, wireStart, ownStart}
 use Rattle.lookup.specs.Tabled.{Tabled}
-use Rattle.lookup.proofs.Tabled.{valid, n-wires, n-boxes, n-inputs, n-outputs, box-entry, output-entry}
+use Rattle.lookup.specs.Ends.{wireAt, roomAt}
+use Rattle.lookup.proofs.Tabled.{valid, n-wires, n-boxes, n-inputs, n-outputs, input-is, output-is}
 use Rattle.tokens.specs.Parts.{Precise}
 use Rattle.tokens.proofs.Lifts.{precise, fits-box, fits-output}
 use Rattle.tokens.proofs.Turns.{allFit, boxesOf, inputsOf, outputsOf, state-fits, fit-turn, fit-done, start-turn}
 use Rattle.tokens.proofs.Groups.{fits-input}
 use Rattle.places.specs.Standing.{bareNet, tokensOf, netIn}
 use Rattle.places.proofs.Standing.{own-sizes}
-use Rattle.token_file.proofs.Ends.{wire-is, wire-fine, output-in}
 use Rattle.states.specs.Saved.{Known, wiresFit, ownsFit}
 
 -- ── the loops ────────────────────────────────────────────────────────────────────────────────
@@ -81,61 +81,58 @@ module _ (s t : List ℕ) (c : Counts) (h : Tabled s t c) where
   pub wires-n : length (n .wires) ≡ c .wires
   wires-n = wires-length s x [] ∙ n-wires s t c h
 
-  pub wire-long : (w a b m : ℕ) (st : List ℕ) → w < c .wires → b ≡ a + wireSize (wire n w) → b ≤ length st → m ≡ (wireOf s (getD t w 0)) .capacity → length (mid a (b - a) st) ≡ 1 + 5 * m
+  pub wire-long : (w a b m : ℕ) (st : List ℕ) → b ≡ a + wireSize (wire n w) → b ≤ length st → m ≡ (wire n w) .capacity → length (mid a (b - a) st) ≡ 1 + 5 * m
   unfolding wireSize
-  wire-long w a b m st l q i e = mid-len a b st i ∙ omega (arith, q, ap (λ (v : Wire). v .capacity) (wire-is s t c h w l), e)
+  wire-long w a b m st q i e = mid-len a b st i ∙ omega (arith, q, e)
 
-  pub wire-part : (w a b m : ℕ) (y : Ty) (st : List ℕ) (r : Bool) → w < c .wires → a ≡ wireStart n w → b ≡ a + wireSize (wire n w) → y ≡ (wireOf s (getD t w 0)) .ty → m ≡ (wireOf s (getD t w 0)) .capacity →
+  pub wire-part : (w a b m : ℕ) (y : Ty) (st : List ℕ) (r : Bool) → a ≡ wireStart n w → b ≡ a + wireSize (wire n w) → y ≡ (wire n w) .ty → m ≡ (wire n w) .capacity →
       r ≡ wireFits (record { ty = y; capacity = m }) (mid a (b - a) st) → r ≡ wireFits (wire n w) (mid (wireStart n w) (wireSize (wire n w)) st)
-  wire-part w a b m y st r l p q e f g =
+  wire-part w a b m y st r p q e f g =
       let part : List ℕ = mid a (b - a) st in
       let z : part ≡ mid (wireStart n w) (wireSize (wire n w)) st = rw (q, add-sub-cancel-left a (wireSize (wire n w)), p) in
-      g ∙ (λ k. wireFits (record { ty = e k; capacity = f k }) part) ∙ ap₂ wireFits (sym (wire-is s t c h w l)) z
+      g ∙ (λ k. wireFits (record { ty = e k; capacity = f k }) part) ∙ ap (wireFits (wire n w)) z
 
   -- ── one process ──
 
-  pub box-precise : (k : ℕ) → k < c .boxes → Precise (bodyAt s (getD t (64 + k) 0))
-  box-precise k l = rw (← box-entry s t c h k l) (precise k (bodyAt s (getD (x .boxes) k 0)) ((valid s t c h .boxes k (omega (arith, n-boxes s t c h))) .passes .limits))
+  pub box-precise : (k : ℕ) → k < c .boxes → Precise (bodyAt s (getD (x .boxes) k 0))
+  box-precise k l = precise k (bodyAt s (getD (x .boxes) k 0)) ((valid s t c h .boxes k (omega (arith, n-boxes s t c h))) .passes .limits)
 
-  pub output-long : (i k : ℕ) → i < c .outputs → k ≡ c .boxes + c .inputs + i → ownSize (proc n k) ≡ 2 + 5 * twoAt s (getD t (648 + i) 0 + 4)
-  unfolding ownSize outputAt
-  output-long i k l e =
-      let m : k ≡ length (x .boxes) + length (x .inputs) + i = omega (arith, n-boxes s t c h, n-inputs s t c h, e) in
-      ap (λ (j : ℕ). ownSize (proc n j)) m ∙ ap ownSize (output-proc s x [] i (omega (arith, n-outputs s t c h))) ∙ ap (λ (o : ℕ). 2 + 5 * twoAt s (o + 4)) (output-entry s t c h i l)
+  pub output-long : (k : ℕ) → c .boxes + c .inputs ≤ k → k < c .boxes + c .inputs + c .outputs → ownSize (proc n k) ≡ 2 + 5 * roomAt (proc n k)
+  unfolding ownSize
+  output-long k from to = ap ownSize (output-is s t c h k from to [])
+
+  pub output-said : (k w m : ℕ) (y : Ty) (part : List ℕ) (r : Bool) → w ≡ wireAt (proc n k) → y ≡ (wire n w) .ty → m ≡ roomAt (proc n k) → r ≡ roomFits y m (twoAt part 0) (drop 2 part) →
+      r ≡ roomFits ((wire n (wireAt (proc n k))) .ty) (roomAt (proc n k)) (twoAt part 0) (drop 2 part)
+  output-said k w m y part r e f g q = q ∙ ap₂ (λ (z : Ty) (j : ℕ). roomFits z j (twoAt part 0) (drop 2 part)) (f ∙ ap (λ (v : ℕ). (wire n v) .ty) e) g
 
   module _ (ts : List ℕ) (counted : Bool) (part : List ℕ) where
     abbrev n′ : Net
     n′ = netIn s t c ts
 
-    pub box-part : (k : ℕ) (body : List ℕ) (r : Bool) → k < c .boxes → body ≡ bodyAt s (getD t (64 + k) 0) → r ≡ valuesFit ((boxOf body) .vars) part → r ≡ ownFits n′ counted (proc n′ k) part
+    pub box-part : (k : ℕ) (body : List ℕ) (r : Bool) → k < c .boxes → body ≡ bodyAt s (getD (x .boxes) k 0) → r ≡ valuesFit ((boxOf body) .vars) part → r ≡ ownFits n′ counted (proc n′ k) part
     unfolding netIn
     box-part k body r l e f =
-        f ∙ ap (λ (b : List ℕ). valuesFit ((boxOf b) .vars) part) (e ∙ ap (bodyAt s) (sym (box-entry s t c h k l)))
+        f ∙ ap (λ (b : List ℕ). valuesFit ((boxOf b) .vars) part) e
         ∙ sym (fits-box s x k n′ counted part) ∙ ap (λ (p : Proc). ownFits n′ counted p part) (sym (box-proc s x (tokensOf s t c ts) k (omega (arith, n-boxes s t c h))))
 
-    pub input-part : (i k : ℕ) (p : List ℕ) (r : Bool) → i < c .inputs → k ≡ c .boxes + i → Known s t ts p c counted →
+    pub input-part : (i k : ℕ) (p : List ℕ) (r : Bool) → i ≡ k - c .boxes → c .boxes ≤ k → k < c .boxes + c .inputs → Known s t ts p c counted →
         r ≡ (not counted || leb (twoAt part 0) (length (tokensIn (bodyAt ts (getD p i 0))))) → r ≡ ownFits n′ counted (proc n′ k) part
-    unfolding netIn inputAt
-    input-part i k p r l e q f =
-        let m : k ≡ length (x .boxes) + i = omega (arith, n-boxes s t c h, e) in
-        f ∙ by-counted counted (λ z. ap (λ (ks : List Token). length ks) (q .fields z .each i l .holds))
-        ∙ sym (ap (λ (j : ℕ). ownFits n′ counted (proc n′ j) part) m ∙ ap (λ (v : Proc). ownFits n′ counted v part) (input-proc s x (tokensOf s t c ts) i (omega (arith, n-inputs s t c h))) ∙ fits-input n′ counted _ (getD (tokensOf s t c ts) i []) part)
+    unfolding netIn
+    input-part i k p r e from to q f =
+        f ∙ by-counted counted (λ z. ap (λ (ks : List Token). length ks) (q .fields z .each i (omega arith) .holds ∙ ap (λ (j : ℕ). getD (tokensOf s t c ts) j []) e))
+        ∙ sym (ap (λ (v : Proc). ownFits n′ counted v part) (input-is s t c h k from to (tokensOf s t c ts)) ∙ fits-input n′ counted _ (getD (tokensOf s t c ts) (k - c .boxes) []) part)
       where
         by-counted : {j k : ℕ} (b : Bool) → (b ≡ true → j ≡ k) → (not b || leb (twoAt part 0) j) ≡ (not b || leb (twoAt part 0) k)
         by-counted true g = ap (leb (twoAt part 0)) (g refl)
         by-counted false g = refl
 
-    pub output-part : (i k : ℕ) (r : Bool) → i < c .outputs → k ≡ c .boxes + c .inputs + i →
-        r ≡ roomFits ((wireOf s (getD t (getD s (getD t (648 + i) 0 + 3) 0) 0)) .ty) (twoAt s (getD t (648 + i) 0 + 4)) (twoAt part 0) (drop 2 part) → r ≡ ownFits n′ counted (proc n′ k) part
-    unfolding netIn outputAt
-    output-part i k r l e f =
-        let m : k ≡ length (x .boxes) + length (x .inputs) + i = omega (arith, n-boxes s t c h, n-inputs s t c h, e) in
-        let o : ℕ = getD t (648 + i) 0 in
-        let same : (w : ℕ) → wire n′ w ≡ wire n w = λ w. unfold wire netOf in refl in
-        f ∙ ap (λ (v : Wire). roomFits (v .ty) (twoAt s (o + 4)) (twoAt part 0) (drop 2 part)) (sym (same (getD s (o + 3) 0) ∙ wire-is s t c h (getD s (o + 3) 0) (output-in s t c h i l .declared)))
-        ∙ sym (ap (λ (j : ℕ). ownFits n′ counted (proc n′ j) part) m
-        ∙ ap (λ (v : Proc). ownFits n′ counted v part) (output-proc s x (tokensOf s t c ts) i (omega (arith, n-outputs s t c h)))
-        ∙ ap (λ (q : ℕ). ownFits n′ counted (output (getD s (q + 3) 0) (twoAt s (q + 4))) part) (output-entry s t c h i l) ∙ fits-output n′ counted (getD s (o + 3) 0) (twoAt s (o + 4)) part)
+    pub output-part : (k : ℕ) (r : Bool) → c .boxes + c .inputs ≤ k → k < c .boxes + c .inputs + c .outputs →
+        r ≡ roomFits ((wire n (wireAt (proc n k))) .ty) (roomAt (proc n k)) (twoAt part 0) (drop 2 part) → r ≡ ownFits n′ counted (proc n′ k) part
+    unfolding netIn
+    output-part k r from to f =
+        let same : wire n (wireAt (proc n k)) ≡ wire n′ (wireAt (proc n k)) = unfold wire netOf in refl in
+        f ∙ ap (λ (v : Wire). roomFits (v .ty) (roomAt (proc n k)) (twoAt part 0) (drop 2 part)) same
+        ∙ sym (ap (λ (v : Proc). ownFits n′ counted v part) (output-is s t c h k from to (tokensOf s t c ts)) ∙ fits-output n′ counted (wireAt (proc n k)) (roomAt (proc n k)) part)
 
   -- places and sizes are those of the network without tokens
   module _ (ts : List ℕ) where
@@ -160,17 +157,10 @@ module _ (s t : List ℕ) (c : Counts) (h : Tabled s t c) where
         let d : b - a ≡ ownSize (proc (netIn s t c ts) k) = omega (arith, q, own-sized k l) in
         f ∙ ap₂ (λ (i j : ℕ). ownFits (netIn s t c ts) counted (proc (netIn s t c ts) k) (mid i j st)) (p ∙ own-place k) d
 
--- ── an input's count, an output's type ───────────────────────────────────────────────────────
+-- ── an input's count ───────────────────────────────────────────────────────
 
 pub input-said : (counted : Bool) (a b k m : ℕ) → counted ≡ true → a ≡ b → k ≡ m → leb a k ≡ (not counted || leb b m)
 input-said counted a b k m e f g = rw e (ap₂ leb f g)
-
-module _ (s t : List ℕ) (c : Counts) (h : Tabled s t c) (i w : ℕ) (y : Ty) (l : i < c .outputs) (e : w ≡ getD s (getD t (648 + i) 0 + 3) 0) (f : y ≡ (wireOf s (getD t w 0)) .ty) where
-  pub output-type : y ≡ (wireOf s (getD t (getD s (getD t (648 + i) 0 + 3) 0) 0)) .ty
-  output-type = f ∙ ap (λ (v : ℕ). (wireOf s (getD t v 0)) .ty) e
-
-  pub output-precise : (1 ≤ y .p) × (y .p ≤ 30)
-  output-precise = let g = (wire-fine s t c h (getD s (getD t (648 + i) 0 + 3) 0) (output-in s t c h i l .declared)) .ty in rw output-type (g .low, g .high)
 
 -- ── the whole state ──────────────────────────────────────────────────────────────────────────
 

@@ -17,7 +17,7 @@ use Rattle.table.specs.declared.Counts.{Counts}
 use Rattle.table.specs.Table.{indexIn}
 use Rattle.queues.specs.Segments.{putMid, startOf, ownStart}
 use Rattle.lookup.specs.Tabled.{Tabled}
-use Rattle.lookup.proofs.Tabled.{n-boxes, box-entry}
+use Rattle.lookup.proofs.Tabled.{n-boxes}
 use Rattle.tokens.proofs.Lifts.{load-box}
 use Rattle.tokens.proofs.Turns.{freshBytes, boxesOf, inputsOf, outputsOf}
 use Rattle.tokens.proofs.Groups.{loadedTo, load-turn, load-net, size-net, sizes-snoc, input-sizes}
@@ -57,7 +57,7 @@ module _ (s t : List ℕ) (c : Counts) (h : Tabled s t c) where
   boxOn b = box (boxAt s x b)
 
   abbrev body : ℕ → List ℕ
-  body k = bodyAt s (getD t (64 + k) 0)
+  body k = bodyAt s (getD (x .boxes) k 0)
 
   box-there : (k : ℕ) → k < c .boxes → proc n k ≡ boxOn k
   box-there k l = box-proc s x [] k (omega (arith, n-boxes s t c h))
@@ -66,11 +66,11 @@ module _ (s t : List ℕ) (c : Counts) (h : Tabled s t c) where
   pub box-long : (k : ℕ) → k < c .boxes → ownSize (proc n k) ≡ 4 * getD (body k) 2 0
   unfolding ownSize boxAt boxOf
   box-long k l =
-      ap ownSize (box-there k l) ∙ ap (λ (i : ℕ). 4 * i) (length-tabulate (getD (bodyAt s (getD (x .boxes) k 0)) 2 0) _ ∙ ap (λ (o : ℕ). getD (bodyAt s o) 2 0) (box-entry s t c h k l))
+      ap ownSize (box-there k l) ∙ ap (λ (i : ℕ). 4 * i) (length-tabulate (getD (body k) 2 0) _)
 
   box-fresh : (k : ℕ) → k < c .boxes → ownBytes (box (boxOf (body k))) (fresh (box (boxOf (body k)))) ≡ freshBytes (proc n k)
   box-fresh k l =
-      ap (λ (o : ℕ). freshBytes (box (boxOf (bodyAt s o)))) (sym (box-entry s t c h k l)) ∙ sym (load-box s x k) ∙ ap (λ (p : Proc). freshBytes p) (sym (box-there k l))
+      sym (load-box s x k) ∙ ap (λ (p : Proc). freshBytes p) (sym (box-there k l))
 
   pub put-box : (k a b : ℕ) (st last : List ℕ) → k < c .boxes → a ≡ ownStart n k → b ≡ a + ownSize (proc n k) → last ≡ freshBytes (box (boxOf (body k))) →
       putMid a (b - a) st last ≡ putMid (ownStart n k) (ownSize (proc n k)) st (freshBytes (proc n k))

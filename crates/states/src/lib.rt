@@ -4,15 +4,17 @@ use model::WireId;
 use table::Counts;
 ghost use mathlib.Core.Path.{_≡_};
 ghost use mathlib.Core.Bool.{not, _||_};
-ghost use mathlib.Core.List.{_++_};
+ghost use mathlib.Core.List.{[], _++_};
 ghost use Prim.Native.Nat.{_+_, _*_, _≤_, _<_};
 ghost use lib.ListN.{length, getD, drop};
 ghost use lib.Dec.{leb};
 ghost use Rattle.model.specs.Bytes.{twoAt};
 ghost use Rattle.model.specs.Network.{wire, proc, fresh, loaded};
-ghost use Rattle.model.specs.NetworkFile.{bodyAt, wireOf};
+ghost use Rattle.model.specs.NetworkFile.{bodyAt, netOf};
 ghost use Rattle.model.specs.States.{tokensIn, ownBytes, wireSize, ownSize, bytesOf, stateSize, roomFits, wireFits, ownFits, stateFits};
 ghost use Rattle.queues.specs.Segments.{mid, putMid, wireStart, ownStart};
+ghost use Rattle.table.specs.Table.{indexIn};
+ghost use Rattle.lookup.specs.Ends.{wireAt, roomAt};
 ghost use Rattle.lookup.specs.Tabled.{Tabled};
 ghost use Rattle.places.specs.Places.{Placed};
 ghost use Rattle.places.specs.Standing.{bareNet, netIn};
@@ -29,7 +31,7 @@ fn load_box(net: &[u8], table: &[u16], c: Counts, starts: &[u16], k: ProcessId, 
     let span = places::own_span(net, table, c, starts, k);
     let start = span.start;
     let end = span.end;
-    let initial = lookup::box_body(net, table, k);
+    let initial = lookup::box_body(net, table, c, k);
     tokens::load_values(initial, &mut state[start..end]);
 }
 
@@ -61,8 +63,8 @@ fn wire_fits(net: &[u8], table: &[u16], c: Counts, starts: &[u16], w: WireId, st
     let span = places::wire_span(net, table, c, starts, w);
     let start = span.start;
     let end = span.end;
-    let t = lookup::wire_type(net, table, w);
-    let most = lookup::capacity(net, table, w);
+    let t = lookup::wire_type(net, table, c, w);
+    let most = lookup::capacity(net, table, c, w);
     tokens::wire_fits(t, most, &state[start..end])
 }
 
@@ -96,16 +98,17 @@ fn input_fits(tokens: &[u8], fields: &[u16], counted: bool, i: usize, part: &[u8
     taken <= most
 }
 
-// The bytes of an output hold tokens of its wire within its room.
-fn output_fits(net: &[u8], table: &[u16], c: Counts, i: usize, part: &[u8]) -> bool
+// The bytes of output k hold tokens of its wire within its room.
+fn output_fits(net: &[u8], table: &[u16], c: Counts, k: ProcessId, part: &[u8]) -> bool
     requires { ⌜ Tabled (now net) (now table) c ⌝ }
-    requires { ⌜ i < c .outputs ⌝ }
-    requires { ⌜ length (now part) ≡ 2 + 5 * twoAt (now net) (getD (now table) (648 + i) 0 + 4) ⌝ }
-    ensures { λ r. ⌜ r ≡ roomFits (wireOf (now (net .entry)) (getD (now (table .entry)) (getD (now (net .entry)) (getD (now (table .entry)) (648 + i) 0 + 3) 0) 0) .ty) (twoAt (now (net .entry)) (getD (now (table .entry)) (648 + i) 0 + 4)) (twoAt (now (part .entry)) 0) (drop 2 (now (part .entry))) ⌝ }
+    requires { ⌜ c .boxes + c .inputs ≤ k .0 ⌝ }
+    requires { ⌜ k .0 < c .boxes + c .inputs + c .outputs ⌝ }
+    requires { ⌜ length (now part) ≡ 2 + 5 * roomAt (proc (netOf (now net) (indexIn (now table) c) []) (k .0)) ⌝ }
+    ensures { λ r. ⌜ r ≡ roomFits ((wire (netOf (now (net .entry)) (indexIn (now (table .entry)) c) []) (wireAt (proc (netOf (now (net .entry)) (indexIn (now (table .entry)) c) []) (k .0)))) .ty) (roomAt (proc (netOf (now (net .entry)) (indexIn (now (table .entry)) c) []) (k .0))) (twoAt (now (part .entry)) 0) (drop 2 (now (part .entry))) ⌝ }
 {
-    let w = lookup::output_wire(net, table, i);
-    let t = lookup::wire_type(net, table, w);
-    let room = lookup::room(net, table, i);
+    let w = lookup::output_wire(net, table, c, k);
+    let t = lookup::wire_type(net, table, c, w);
+    let room = lookup::room(net, table, c, k);
     tokens::output_fits(t, room, part)
 }
 
@@ -128,14 +131,14 @@ fn own_part_fits(
 {
     let j = octets::wide(k.0);
     if j < c.boxes {
-        let body = lookup::box_body(net, table, k);
+        let body = lookup::box_body(net, table, c, k);
         return tokens::values_fit(body, part);
     }
     let i = j - c.boxes;
     if i < c.inputs {
         return input_fits(tokens, fields, counted, i, part);
     }
-    output_fits(net, table, c, i - c.inputs, part)
+    output_fits(net, table, c, k, part)
 }
 
 // Process k, in its place.

@@ -22,9 +22,10 @@ use Rattle.table.specs.declared.Counts.{Counts}
 use Rattle.table.specs.Table.{indexIn}
 use Rattle.rules.specs.Bodies.{patternsFrom}
 use Rattle.typing.specs.Fits.{isRead, listRead}
-use Rattle.lookup.proofs.Tabled.{n-boxes}
+use Rattle.lookup.proofs.Tabled.{n-boxes, input-known, output-known}
 use Rattle.places.specs.Standing.{tokensOf, netIn, Standing, stateOf}
-use Rattle.moves.specs.Moves.{tokensAt, roomAt, wireAt}
+use Rattle.lookup.specs.Ends.{wireAt, roomAt}
+use Rattle.moves.specs.Moves.{tokensAt}
 use Rattle.taking.specs.Taking.{fired, InputReady, OutputReady}
 use Rattle.taking.specs.Reading.{readFrom, afterReading, CanRead}
 use Rattle.taking.proofs.Firing.{OutputAt, InputAt, output-at, input-at}
@@ -97,7 +98,7 @@ module _ (s t p ts b : List ℕ) (c : Counts) (h : Standing s t p ts b c) (m : �
     )
 
     pub output-due : c .boxes + c .inputs ≤ k → k < c .boxes + c .inputs + c .outputs → OutputReady c n st k × (fire n m k st ≡ fired n k 0 st)
-    output-due from to = as-output _ (output-at s t p ts b c h k k _ from to refl refl) from to
+    output-due from to = as-output _ (output-at s t p ts b c h k _ from to (refl, output-known s t c (h .tabled) k from to)) from to
 
     as-input : (i w : ℕ) (x : List Token) → InputAt c n k i w x → c .boxes ≤ k → k < c .boxes + c .inputs → InputReady c n st k × (fire n m k st ≡ fired n k 0 st)
     unfolding wireAt tokensAt
@@ -112,7 +113,7 @@ module _ (s t p ts b : List ℕ) (c : Counts) (h : Standing s t p ts b c) (m : �
     )
 
     pub input-due : c .boxes ≤ k → k < c .boxes + c .inputs → InputReady c n st k × (fire n m k st ≡ fired n k 0 st)
-    input-due from to = as-input _ _ _ (input-at s t p ts b c h k k _ from to refl refl) from to
+    input-due from to = as-input _ _ _ (input-at s t p ts b c h k k _ from to (refl, input-known s t c (h .tabled) k from to) refl) from to
 
   -- a box, with the body of the rule that it fires
   module _ (body : List ℕ) (l : k < c .boxes) where

@@ -1,6 +1,6 @@
 -- The firing of an input and of an output, move by move.
 -- Assumes nothing.
-use mathlib.Core.Path.{_≡_, refl, sym, ap, _∙_, subst}
+use mathlib.Core.Path.{_≡_, refl, sym, ap, ap₂, _∙_, subst}
 use mathlib.Core.List.{List, []}
 use Prim.Native.Nat.{ℕ, _+_, _-_, _≤_, _<_}
 use native.Mathlib.Omega.{arith}
@@ -8,21 +8,21 @@ use lib.ListN.{length, getD, drop}
 use Rattle.model.specs.declared.Token.{Token}
 use Rattle.model.specs.Bytes.{twoAt}
 use Rattle.model.specs.Network.{Proc, input, output, Net, State, noToken, wire, capacity, proc, queue, own, takenOf, insOf, outsOf}
-use Rattle.model.specs.NetworkFile.{inputAt, outputAt, bodyAt}
+use Rattle.model.specs.NetworkFile.{bodyAt, netOf}
 use Rattle.model.specs.States.{tokenAt, tokensIn, wireBytes, ownBytes}
 use Rattle.model.specs.Cycles.{oldest, seen, look, moves, readsOf, sentOf, present, keptOf, deedOf, takeAll, putAll, act}
 use Rattle.model.proofs.Accepted.{InFile}
 use Rattle.model.proofs.Decoded.{GoodProc}
 use Rattle.model.proofs.Kept.{fit-at, oldest-fits}
-use Rattle.model.proofs.Lookup.{input-proc, output-proc}
 use Rattle.table.specs.declared.Counts.{Counts}
 use Rattle.table.specs.Table.{indexIn}
 use Rattle.queues.proofs.Queues.{taken-count}
-use Rattle.lookup.proofs.Tabled.{n-boxes, n-inputs, n-outputs, input-entry, output-entry}
+use Rattle.lookup.specs.Ends.{wireAt, roomAt}
+use Rattle.lookup.proofs.Tabled.{input-is, output-is}
 use Rattle.places.specs.Standing.{tokensOf, netIn, Standing, stateOf}
 use Rattle.places.proofs.Standing.{net-all, state-good, state-laid}
 use Rattle.sights.proofs.Sights.{oldest-is, queue-sane}
-use Rattle.moves.specs.Moves.{Became, CanTake, CanPut, CanCount, CanReceive, withQueue, withOwn, afterTake, afterPut, afterCount, afterReceive, tokensAt, wireAt}
+use Rattle.moves.specs.Moves.{Became, CanTake, CanPut, CanCount, CanReceive, withQueue, withOwn, afterTake, afterPut, afterCount, afterReceive, tokensAt}
 use Rattle.moves.proofs.Laws.{became-more, wires-n, procs-n}
 use Rattle.token_file.specs.Fields.{Fields}
 use Rattle.taking.specs.Taking.{fired, InputReady, OutputReady}
@@ -63,19 +63,11 @@ module _ (s t p ts b : List ℕ) (c : Counts) (h : Standing s t p ts b c) where
 
   -- ── an output ──
 
-  -- the table's entry at its number after the boxes and the inputs
-  pub output-at : (k a w : ℕ) → c .boxes + c .inputs ≤ k → k < c .boxes + c .inputs + c .outputs → w ≡ getD s (getD t (648 + (a - (c .boxes + c .inputs))) 0 + 3) 0 → a ≡ k → OutputAt c n k w
-  unfolding netIn outputAt
-  output-at k a w from to f e =
-      let i : ℕ = a - (c .boxes + c .inputs) in
-      let l : i < c .outputs = omega (arith, e, from, to) in
-      let q : k ≡ length (indexIn t c .boxes) + length (indexIn t c .inputs) + i = omega (arith, e, from, n-boxes s t c (h .tabled), n-inputs s t c (h .tabled)) in
-      let o = output-entry s t c (h .tabled) i l in
-      let g : w ≡ getD s (getD (indexIn t c .outputs) i 0 + 3) 0 = f ∙ ap (λ (a : ℕ). getD s (a + 3) 0) (sym o) in
-      let is : proc n k ≡ output w (twoAt s (getD (indexIn t c .outputs) i 0 + 4)) =
-      ap (proc n) q ∙ output-proc s (indexIn t c) (tokensOf s t c ts) i (omega (arith, l, n-outputs s t c (h .tabled))) ∙ ap (λ (v : ℕ). output v (twoAt s (getD (indexIn t c .outputs) i 0 + 4))) (sym g) in
-      let gp : GoodProc n (output w (twoAt s (getD (indexIn t c .outputs) i 0 + 4))) = subst (GoodProc n) is (proc-good k to) in
-      record { room = twoAt s (getD (indexIn t c .outputs) i 0 + 4); is = is; known = omega (arith, gp .0, wires-n s t p ts b c h) }
+  pub output-at : (k w : ℕ) → c .boxes + c .inputs ≤ k → k < c .boxes + c .inputs + c .outputs → (w ≡ wireAt (proc (netOf s (indexIn t c) []) k)) × (w < c .wires) → OutputAt c n k w
+  unfolding netIn
+  output-at k w from to f =
+      let room : ℕ = roomAt (proc (netOf s (indexIn t c) []) k) in
+      record { room = room; is = output-is s t c (h .tabled) k from to (tokensOf s t c ts) ∙ ap (λ (v : ℕ). output v room) (sym (f .0)); known = f .1 }
 
   -- the oldest token of a wire, from its bytes
   pub oldest-here : (w : ℕ) (part : List ℕ) (x : Token) → part ≡ wireBytes (wire n w) (queue st w) → x ≡ tokenAt (drop 1 part) → x ≡ oldest (queue st w)
@@ -106,18 +98,14 @@ module _ (s t p ts b : List ℕ) (c : Counts) (h : Standing s t p ts b c) where
 
   -- ── an input ──
 
-  -- the table's entry at its number after the boxes, and its field's tokens
-  pub input-at : (k a w : ℕ) → c .boxes ≤ k → k < c .boxes + c .inputs → w ≡ getD s (getD t (640 + (a - c .boxes)) 0 + 3) 0 → a ≡ k → InputAt c n k (a - c .boxes) w (getD (tokensOf s t c ts) (a - c .boxes) [])
-  unfolding netIn inputAt
-  input-at k a w from to f e =
-      let i : ℕ = a - c .boxes in
-      let l : i < c .inputs = omega (arith, e, from, to) in
-      let q : k ≡ length (indexIn t c .boxes) + i = omega (arith, e, from, n-boxes s t c (h .tabled)) in
-      let g : w ≡ getD s (getD (indexIn t c .inputs) i 0 + 3) 0 = f ∙ ap (λ (o : ℕ). getD s (o + 3) 0) (sym (input-entry s t c (h .tabled) i l)) in
-      let is : proc n k ≡ input w (getD (tokensOf s t c ts) i []) =
-      ap (proc n) q ∙ input-proc s (indexIn t c) (tokensOf s t c ts) i (omega (arith, l, n-inputs s t c (h .tabled))) ∙ ap (λ (v : ℕ). input v (getD (tokensOf s t c ts) i [])) (sym g) in
-      let gp : GoodProc n (input w (getD (tokensOf s t c ts) i [])) = subst (GoodProc n) is (proc-good k (omega (arith, to))) in
-      record { is = is; number = l; known = omega (arith, gp .0, wires-n s t p ts b c h) }
+  -- its number among the inputs is that of its field's tokens
+  pub input-at : (k a w : ℕ) → c .boxes ≤ k → k < c .boxes + c .inputs → (w ≡ wireAt (proc (netOf s (indexIn t c) []) k)) × (w < c .wires) → a ≡ k → InputAt c n k (a - c .boxes) w (getD (tokensOf s t c ts) (a - c .boxes) [])
+  unfolding netIn
+  input-at k a w from to f e = record {
+    is = input-is s t c (h .tabled) k from to (tokensOf s t c ts) ∙ ap₂ (λ (v i : ℕ). input v (getD (tokensOf s t c ts) (i - c .boxes) [])) (sym (f .0)) (sym e);
+    number = omega (arith, e, from, to);
+    known = f .1;
+  }
 
   module _ (k i w : ℕ) (r : InputReady c n st k) (o : InputAt c n k i w (getD (tokensOf s t c ts) i [])) where
     abbrev q : List Token

@@ -5,7 +5,8 @@ use lib.ListN.{length}
 use Rattle.model.specs.Network.{Net, State, proc, capacity, queue, own, takenOf, gotOf, insOf}
 use Rattle.model.specs.Cycles.{look, readsOf, deedOf, act}
 use Rattle.table.specs.declared.Counts.{Counts}
-use Rattle.moves.specs.Moves.{tokensAt, roomAt, wireAt}
+use Rattle.lookup.specs.Ends.{wireAt, roomAt}
+use Rattle.moves.specs.Moves.{tokensAt}
 
 -- process k fires under rule r, on the state that it finds
 unfoldable pub fired : Net → ℕ → ℕ → State → State

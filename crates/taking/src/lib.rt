@@ -27,8 +27,7 @@ pub fn fire_output(
     requires { ⌜ OutputReady c (netIn (now net) (now table) c (now tokens)) (stateOf (now net) (now table) c (now tokens) (now state)) (k .0) ⌝ }
     ensures { λ _. ⌜ Became (now (net .entry)) (now (table .entry)) (now (starts .entry)) (now (tokens .entry)) (now (state .entry)) c (now (state .exit)) (fired (netIn (now (net .entry)) (now (table .entry)) c (now (tokens .entry))) (k .0) 0 (stateOf (now (net .entry)) (now (table .entry)) c (now (tokens .entry)) (now (state .entry)))) ⌝ }
 {
-    let i = octets::wide(k.0) - (c.boxes + c.inputs);
-    let w = lookup::output_wire(net, table, i);
+    let w = lookup::output_wire(net, table, c, k);
     let part = sights::wire_part(net, table, c, starts, tokens, w, state);
     let t = queues::oldest(part);
     moves::take(net, table, c, starts, tokens, w, state);
@@ -52,7 +51,7 @@ pub fn fire_input(
     ensures { λ _. ⌜ Became (now (net .entry)) (now (table .entry)) (now (starts .entry)) (now (tokens .entry)) (now (state .entry)) c (now (state .exit)) (fired (netIn (now (net .entry)) (now (table .entry)) c (now (tokens .entry))) (k .0) 0 (stateOf (now (net .entry)) (now (table .entry)) c (now (tokens .entry)) (now (state .entry)))) ⌝ }
 {
     let i = octets::wide(k.0) - c.boxes;
-    let w = lookup::input_wire(net, table, i);
+    let w = lookup::input_wire(net, table, c, k);
     let part = sights::own_part(net, table, c, starts, tokens, k, state);
     let taken = octets::two_at(part, 0);
     let t = token_file::input_token(tokens, fields, i, taken);
@@ -98,7 +97,7 @@ pub fn take_read(
     requires { ⌜ CanRead c (stateOf (now net) (now table) c (now tokens) (now state)) ((boxAt (now net) (indexIn (now table) c) (k .0)) .ins) (k .0) (now body) ⌝ }
     ensures { λ _. ⌜ Became (now (net .entry)) (now (table .entry)) (now (starts .entry)) (now (tokens .entry)) (now (state .entry)) c (now (state .exit)) (afterReading ((boxAt (now (net .entry)) (indexIn (now (table .entry)) c) (k .0)) .ins) (readFrom (length ((boxAt (now (net .entry)) (indexIn (now (table .entry)) c) (k .0)) .ins)) 0 (now (body .entry))) (stateOf (now (net .entry)) (now (table .entry)) c (now (tokens .entry)) (now (state .entry)))) ⌝ }
 {
-    let ports = lookup::box_body(net, table, k);
+    let ports = lookup::box_body(net, table, c, k);
     let n = octets::wide(octets::byte_at(ports, 0));
     let mut at = 0;
     let mut j = 0;

@@ -16,21 +16,22 @@ use Rattle.model.specs.declared.Field.{Field}
 use Rattle.model.specs.declared.Field.the-variants.{At, Cut}
 use Rattle.model.specs.Bytes.{twoAt, fourAt, valueAt, stretch}
 use Rattle.model.specs.Values.{noType}
-use Rattle.model.specs.Network.{Wire, Net, wire, noToken}
-use Rattle.model.specs.NetworkFile.{good, refuse, orRefuse, fieldAt, bodyAt, wireOf, netOf}
+use Rattle.model.specs.Network.{Net, wire, proc, noToken}
+use Rattle.model.specs.NetworkFile.{good, refuse, orRefuse, fieldAt, bodyAt, inputAt, netOf}
 use Rattle.model.specs.States.{tokenAt, readTokens, tokenField, tokensIn, inputTokens, tokensFrom, tokenFile, inputTypes}
 use Rattle.model.proofs.Accepted.{InFile}
 use Rattle.model.proofs.Decoded.{length-tabulate, getD-tabulate, getD-map-lt, stretch-at, length-body}
+use Rattle.model.proofs.Lookup.{input-proc}
 use Rattle.model.proofs.Sizes.{map-append}
 use Rattle.table.specs.declared.Counts.{Counts}
 use Rattle.table.specs.Table.{indexIn}
 use Rattle.lookup.specs.Tabled.{Tabled}
-use Rattle.lookup.proofs.Tabled.{n-inputs, input-entry}
+use Rattle.lookup.specs.Ends.{wireAt}
+use Rattle.lookup.proofs.Tabled.{n-boxes, n-inputs}
 use Rattle.places.specs.Standing.{bareNet, found, tokensOf}
 use Rattle.tokens.proofs.Turns.{ahead-none, left, tokens-field, tokens-bad, tokens-cut, tokens-end, tokens-extra, input-types}
 use Rattle.tokens.proofs.Groups.{field-inside, length-tokens-in}
 use Rattle.token_file.specs.Fields.{fieldEnd, Fields}
-use Rattle.token_file.proofs.Ends.{wire-is, wire-fine, input-in}
 
 -- ── one field ────────────────────────────────────────────────────────────────────────────────
 
@@ -125,10 +126,6 @@ upto-next types f p at i end u l w = record {
 abbrev pub typesOf : List ℕ → List ℕ → Counts → List Ty
 typesOf s t c = inputTypes (netOf s (indexIn t c) []) ((netOf s (indexIn t c) []) .procs)
 
--- the type of input i, as the table gives it
-abbrev pub typeOn : List ℕ → List ℕ → ℕ → Ty
-typeOn s t i = (wireOf s (getD t (getD s (getD t (640 + i) 0 + 3) 0) 0)) .ty
-
 module _ (s t : List ℕ) (c : Counts) (h : Tabled s t c) where
   abbrev n : Net
   n = netOf s (indexIn t c) []
@@ -136,15 +133,15 @@ module _ (s t : List ℕ) (c : Counts) (h : Tabled s t c) where
   pub types-length : length (typesOf s t c) ≡ c .inputs
   types-length = ap (λ (l : List Ty). length l) (input-types n s (indexIn t c) []) ∙ length-tabulate (length ((indexIn t c) .inputs)) _ ∙ n-inputs s t c h
 
-  pub type-at : (i : ℕ) (y : Ty) → i < c .inputs → y ≡ typeOn s t i → getD (typesOf s t c) i noType ≡ y
-  type-at i y l e =
-      ap (λ (z : List Ty). getD z i noType) (input-types n s (indexIn t c) [])
-      ∙ getD-tabulate (length ((indexIn t c) .inputs)) _ noType i (omega (arith, n-inputs s t c h))
-      ∙ ap (λ (o : ℕ). (wire n (getD s (o + 3) 0)) .ty) (input-entry s t c h i l)
-      ∙ ap (λ (w : Wire). w .ty) (wire-is s t c h (getD s (getD t (640 + i) 0 + 3) 0) (input-in s t c h i l)) ∙ sym e
-
-  pub type-precise : (i : ℕ) (y : Ty) → i < c .inputs → y ≡ typeOn s t i → (1 ≤ y .p) × (y .p ≤ 30)
-  type-precise i y l e = let g = (wire-fine s t c h (getD s (getD t (640 + i) 0 + 3) 0) (input-in s t c h i l)) .ty in rw e (g .low, g .high)
+  -- the type of input i is that of its wire
+  pub type-at : (i w : ℕ) (y : Ty) → i < c .inputs → w ≡ wireAt (proc n (c .boxes + i)) → y ≡ (wire n w) .ty → getD (typesOf s t c) i noType ≡ y
+  unfolding inputAt wireAt
+  type-at i w y l e f =
+      let x = indexIn t c in
+      let k : c .boxes + i ≡ length (x .boxes) + i = omega (arith, n-boxes s t c h) in
+      let g : w ≡ getD s (getD (x .inputs) i 0 + 3) 0 = e ∙ ap (λ (j : ℕ). wireAt (proc n j)) k ∙ ap wireAt (input-proc s x [] i (omega (arith, n-inputs s t c h))) in
+      ap (λ (z : List Ty). getD z i noType) (input-types n s x []) ∙ getD-tabulate (length (x .inputs)) _ noType i (omega (arith, n-inputs s t c h))
+      ∙ ap (λ (v : ℕ). (wire n v) .ty) (sym g) ∙ sym f
 
   pub too-long : (f p : List ℕ) → 16384 < length f → tokenFile (typesOf s t c) f ≡ refuse 5 0
   unfolding tokenFile orRefuse

@@ -1,3 +1,2 @@
--- Laws of the token file, and of the wires that inputs and outputs name.
-pub mod Ends
+-- Laws of the token file.
 pub mod Laws

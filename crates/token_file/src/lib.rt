@@ -1,17 +1,21 @@
 // The token file of a network: its check, and the tokens of each input in it.
 use model::Field;
+use model::ProcessId;
 use model::Token;
 use model::Ty;
 use table::Counts;
 ghost use mathlib.Core.Path.{_≡_};
+ghost use mathlib.Core.List.{[]};
 ghost use Prim.Native.Nat.{_+_, _≤_, _<_, _^_};
 ghost use lib.ListN.{length, getD};
 ghost use lib.Signed.{mag};
 ghost use Rattle.model.specs.Network.{noToken};
-ghost use lib.Signed.{mag};
-ghost use Rattle.model.specs.NetworkFile.{fieldAt, bodyAt, wireOf};
-ghost use Rattle.model.specs.States.{tokensIn, inputTokens};
+ghost use Rattle.model.specs.Values.{noType};
+ghost use Rattle.model.specs.NetworkFile.{fieldAt, bodyAt, netOf};
+ghost use Rattle.model.specs.States.{tokensIn, inputTokens, inputTypes};
 ghost use Rattle.model.proofs.Accepted.{InFile};
+ghost use Rattle.model.proofs.Decoded.{GoodType};
+ghost use Rattle.table.specs.Table.{indexIn};
 ghost use Rattle.lookup.specs.Tabled.{Tabled};
 ghost use Rattle.token_file.specs.Fields.{fieldEnd, Checked};
 
@@ -38,12 +42,14 @@ fn field_end(t: Ty, tokens: &[u8], at: usize) -> usize
 }
 
 // The type of the tokens of input i.
-fn input_type(net: &[u8], table: &[u16], i: usize) -> Ty
-    requires { ⌜ i < 8 ⌝ }
-    ensures { λ r. ⌜ r ≡ wireOf (now (net .entry)) (getD (now (table .entry)) (getD (now (net .entry)) (getD (now (table .entry)) (640 + i) 0 + 3) 0) 0) .ty ⌝ }
+fn input_type(net: &[u8], table: &[u16], c: Counts, i: usize) -> Ty
+    requires { ⌜ Tabled (now net) (now table) c ⌝ }
+    requires { ⌜ i < c .inputs ⌝ }
+    ensures { λ r. ⌜ (getD (inputTypes (netOf (now (net .entry)) (indexIn (now (table .entry)) c) []) ((netOf (now (net .entry)) (indexIn (now (table .entry)) c) []) .procs)) i noType ≡ r) × GoodType r ⌝ }
 {
-    let w = lookup::input_wire(net, table, i);
-    lookup::wire_type(net, table, w)
+    let k = c.boxes + i;
+    let w = lookup::input_wire(net, table, c, ProcessId(k as u8));
+    lookup::wire_type(net, table, c, w)
 }
 
 // One field of tag 32 for each input, in order, and nothing more: each field's offset is noted.
@@ -58,7 +64,7 @@ pub fn token_file(net: &[u8], table: &[u16], c: Counts, tokens: &[u8], fields: &
     let mut at: usize = 0;
     let mut i: usize = 0;
     while i < c.inputs {
-        let t = input_type(net, table, i);
+        let t = input_type(net, table, c, i);
         let end = field_end(t, tokens, at);
         if end == 0 {
             return Tokens::Bad { place: at };

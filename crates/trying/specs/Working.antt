@@ -5,16 +5,17 @@ use mathlib.Core.Path.{_≡_}
 use mathlib.Core.Bool.{false}
 use mathlib.Core.List.{List}
 use lib.IntN.{ℤ, pos}
-use lib.ListN.{getD}
+use lib.ListN.{length, getD}
 use lib.Signed.{mag}
 use Rattle.model.specs.Values.{noType}
 use Rattle.model.specs.Rules.{ruleRead, readRule}
-use Rattle.model.specs.NetworkFile.{bodyAt}
+use Rattle.model.specs.NetworkFile.{bodyAt, boxAt, ruleAt}
 use Rattle.model.specs.Cycles.{Mark, quiet, fires, faulty}
-use Rattle.model.proofs.Accepted.{InFile}
 use Rattle.model.proofs.Decoded.{Each, GoodType}
 use Rattle.types.specs.Scopes.{scopeIn}
-use Rattle.lookup.specs.Entries.{ruleEntry}
+use Rattle.table.specs.declared.Counts.{Counts}
+use Rattle.table.specs.Table.{indexIn}
+use Rattle.lookup.specs.Tabled.{Tabled}
 use Rattle.shapes.specs.Shapes.{typesIn}
 use Rattle.shapes.specs.declared.Arity.{Arity}
 use Rattle.rules.specs.declared.Parts.{Parts}
@@ -69,13 +70,15 @@ pub record Settled (a : Arity) (ins vars b : List ℕ) (at : ℕ) (vals : List �
   pub guard : at ≡ ruled .parts .guard
   pub small : Smalls vals
 
--- each of the first n rules of box k
-pub record Rules (s t : List ℕ) (k n : ℕ) (a : Arity) (ins vars : List ℕ) : Type 0 where
+-- each of the first n rules of box k of an accepted network
+pub record Rules (s t : List ℕ) (c : Counts) (k n : ℕ) (a : Arity) (ins vars : List ℕ) : Type 0 where
+  pub tabled : Tabled s t c
+  pub known : k < c .boxes
+  pub there : n ≤ length ((boxAt s (indexIn t c) k) .rules)
   pub few : n ≤ 16
   pub few-ins : a .ins ≤ 4
   pub few-vars : a .vars ≤ 4
-  pub inside : (r : ℕ) → r < n → InFile s (ruleEntry t k r)
-  pub ruled : (r : ℕ) → r < n → Ruled a ins vars (bodyAt s (ruleEntry t k r))
+  pub ruled : (r : ℕ) → r < n → Ruled a ins vars (bodyAt s (ruleAt (indexIn t c) k r))
 
 -- as the code says it, without the rule's number
 unfoldable pub judgedAs : Mark → Judgement

@@ -6,16 +6,17 @@ use model::Outcome;
 use model::ProcessId;
 use model::RuleId;
 use shapes::Arity;
+use table::Counts;
 ghost use mathlib.Core.Path.{_≡_};
 ghost use Prim.Native.Nat.{_+_, _≤_, _<_};
 ghost use lib.ListN.{length, getD};
 ghost use Rattle.model.specs.Bytes.{valueAt};
 ghost use Rattle.model.specs.Values.{isTrue};
 ghost use Rattle.model.specs.Rules.{patternOf, ruleRead, readRule};
-ghost use Rattle.model.specs.NetworkFile.{bodyAt};
+ghost use Rattle.model.specs.NetworkFile.{bodyAt, ruleAt};
 ghost use Rattle.model.specs.Cycles.{matches, chosen as chosenOf, first, upFrom};
 ghost use Rattle.evaluation.specs.Envs.{envIn};
-ghost use Rattle.lookup.specs.Entries.{ruleEntry};
+ghost use Rattle.table.specs.Table.{indexIn};
 ghost use Rattle.shapes.specs.Shapes.{typesIn};
 ghost use Rattle.trying.specs.Views.{tokenOf, viewEnv, judgeOf, tryOn, markAs};
 ghost use Rattle.trying.specs.Working.{AtGuard, AtActions, Settled, Rules, Smalls, judgedAs};
@@ -127,6 +128,7 @@ fn settle(
 pub fn search(
     net: &[u8],
     table: &[u16],
+    c: Counts,
     k: ProcessId,
     count: usize,
     a: Arity,
@@ -136,9 +138,9 @@ pub fn search(
     full: &[u8],
     vals: &[i64; 8],
 ) -> Tried
-    requires { ⌜ Rules (now net) (now table) (k .0) count a (now ins) (now vars) ⌝ }
+    requires { ⌜ Rules (now net) (now table) c (k .0) count a (now ins) (now vars) ⌝ }
     requires { ⌜ Smalls (now vals) ⌝ }
-    ensures { λ q. ⌜ q ≡ markAs (first (λ r. tryOn (typesIn (now (ins .entry)) (a .ins)) (typesIn (now (vars .entry)) (a .vars)) (now (heads .entry)) (now (full .entry)) (now (vals .entry)) (ruleRead (readRule (a .ins) (a .outs) (a .vars) (bodyAt (now (net .entry)) (ruleEntry (now (table .entry)) (k .0) r)))) r) (upFrom 0 count)) ⌝ }
+    ensures { λ q. ⌜ q ≡ markAs (first (λ r. tryOn (typesIn (now (ins .entry)) (a .ins)) (typesIn (now (vars .entry)) (a .vars)) (now (heads .entry)) (now (full .entry)) (now (vals .entry)) (ruleRead (readRule (a .ins) (a .outs) (a .vars) (bodyAt (now (net .entry)) (ruleAt (indexIn (now (table .entry)) c) (k .0) r)))) r) (upFrom 0 count)) ⌝ }
 {
     let patterns = a.ins + a.vars;
     let mut r: usize = 0;
@@ -146,7 +148,7 @@ pub fn search(
         if count <= r {
             break Tried::Quiet;
         }
-        let body = lookup::rule_body(net, table, k, RuleId(r as u8));
+        let body = lookup::rule_body(net, table, c, k, RuleId(r as u8));
         let mut at: usize = 0;
         let mut j: usize = 0;
         while j < patterns {

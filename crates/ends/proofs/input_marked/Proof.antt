@@ -5,7 +5,6 @@ use Prim.Native.Nat.{ℕ, _+_, _-_, _<_}
 use native.Mathlib.Omega.{arith}
 use lib.ListN.{length}
 use Rattle.model.specs.declared.Token.{Token}
-use Rattle.token_file.proofs.Ends.{input-in}
 use Rattle.ends.proofs.Ends.{end-spent, end-left, not-full, input-marks}
 use Rattle.ends.proofs.input_marked.Statement.{statement}
 use Rattle.ends.proofs.input_marked.Tie as tie
@@ -18,11 +17,11 @@ module _ (c : tie.After-own-count) where
   abbrev i : ℕ
   i = c .before .before .wide .result - start .args .c .boxes
 
-  number : start .args .k .0 ≡ start .args .c .boxes + i
-  number = omega (arith, c .before .before .wide .ensures .0, start .pre .1 .1 .0)
+  number : i ≡ start .args .k .0 - start .args .c .boxes
+  number = omega (arith, c .before .before .wide .ensures .0)
 
   there : i < start .args .c .inputs
-  there = omega (arith, number, start .pre .1 .1 .1)
+  there = omega (arith, number, start .pre .1 .1 .0, start .pre .1 .1 .1)
 
 wide-requires : tie.Need-wide-requires
 wide-requires c κs = search needs
@@ -42,18 +41,14 @@ returns c =
     let count = left .before in
     let a = (start count) .args in
     let h = (start count) .pre in
-    let m = input-marks (a .net .now) (a .table .now) (a .starts .now) (a .tokens .now) (a .state .now) (a .c) (h .0) (a .k .0) (i count) (there count) (number count) in
+    let m = input-marks (a .net .now) (a .table .now) (a .starts .now) (a .tokens .now) (a .state .now) (a .c) (h .0) (a .k .0) (i count) (number count) (h .1 .1 .0) (h .1 .1 .1) in
     end-spent _ _ _ _ (count .own-count .result) _ m (count .own-count .ensures) (omega (arith, left .input-count .ensures, c .if1 .taken, ap (λ (ks : List Token). length ks) (h .1 .0 .each (i count) (there count) .holds)))
 
 input-wire-requires : tie.Need-input-wire-requires
-input-wire-requires c κs = search needs
+input-wire-requires c κs = let h = (start (c .before .before)) .pre in (h .0 .tabled, h .1 .1)
 
 wire-part-requires : tie.Need-wire-part-requires
-wire-part-requires c κs =
-    let count = c .before .before .before in
-    let a = (start count) .args in
-    let h = (start count) .pre .0 in
-    (h, omega (arith, c .input-wire .ensures, input-in (a .net .now) (a .table .now) (a .c) (h .tabled) (i count) (there count)))
+wire-part-requires c κs = ((start (c .before .before .before)) .pre .0, c .input-wire .ensures .1)
 
 is-full-requires : tie.Need-is-full-requires
 is-full-requires c κs = search needs
@@ -66,8 +61,8 @@ returns-2 c =
     let count = left .before in
     let a = (start count) .args in
     let h = (start count) .pre in
-    let m = input-marks (a .net .now) (a .table .now) (a .starts .now) (a .tokens .now) (a .state .now) (a .c) (h .0) (a .k .0) (i count) (there count) (number count) in
-    let f = not-full (a .net .now) (a .table .now) (a .starts .now) (a .tokens .now) (a .state .now) (a .c) (h .0) _ _ _ (part .wire-part .result .now) (wire .input-wire .ensures) (part .wire-part .ensures) (c .is-full .ensures) in
+    let m = input-marks (a .net .now) (a .table .now) (a .starts .now) (a .tokens .now) (a .state .now) (a .c) (h .0) (a .k .0) (i count) (number count) (h .1 .1 .0) (h .1 .1 .1) in
+    let f = not-full (a .net .now) (a .table .now) (a .starts .now) (a .tokens .now) (a .state .now) (a .c) (h .0) _ _ _ (part .wire-part .result .now) (wire .input-wire .ensures .0) (part .wire-part .ensures) (c .is-full .ensures) in
     end-left _ _ _ _ (count .own-count .result) _ m (count .own-count .ensures) _
     (omega (arith, left .input-count .ensures, wire .before .if1 .left, ap (λ (ks : List Token). length ks) (h .1 .0 .each (i count) (there count) .holds))) f
 

@@ -1,39 +1,23 @@
 use mathlib.Core.Path.{_≡_, sym, _∙_}
-use Prim.Native.Nat.{_+_}
 use native.Mathlib.Omega.{arith}
-use lib.ListN.{getD}
 use borrow.Author.Needs.{needs}
-use Rattle.model.specs.NetworkFile.{bodyAt}
-use Rattle.lookup.specs.Entries.{ruleEntry}
-use Rattle.lookup.proofs.Laws.{at-entry}
-use Rattle.lookup.proofs.Tabled.{rule-inside}
+use Rattle.model.specs.NetworkFile.{bodyAt, ruleAt}
+use Rattle.table.specs.Table.{indexIn}
 use Rattle.typing.proofs.Wholes.{ins-read}
 use Rattle.marking.proofs.Boxes.{box-ready}
 use Rattle.firing.proofs.Deeds.{ready, is-whole, works, fired-as}
 use Rattle.firing.proofs.fire_box.Statement.{statement}
 use Rattle.firing.proofs.fire_box.Tie as tie
 
--- the offset of the box's field
-at-is : (c : tie.After-entry) → let a = c .before .before .before .before .before .before .before .args in c .entry .result ≡ getD (a .table .now) (64 + a .k .0) 0
-at-is c =
-    let a = c .before .before .before .before .before .before .before .args in
-    at-entry (a .table .now) 64 (a .k .0) (c .before .wide .result) (c .entry .result) (c .before .wide .ensures .0) (c .entry .ensures .0)
-
 -- the body of the rule
 body-is : (c : tie.After-rule-body)
-    → let a = c .before .before .before .before .before .before .before .before .before .before .before .before .before .before .before .args in
-    c .rule-body .result .now ≡ bodyAt (a .net .now) (ruleEntry (a .table .now) (a .k .0) (a .r .0))
+    → let a = c .before .before .before .before .before .before .before .before .before .before .before .before .before .before .args in
+    c .rule-body .result .now ≡ bodyAt (a .net .now) (ruleAt (indexIn (a .table .now) (a .c)) (a .k .0) (a .r .0))
 unfolding bodyAt
 body-is c = c .rule-body .ensures .bytes
 
-wide-requires : tie.Need-wide-requires
-wide-requires c κs = search needs
-
-add-entry : tie.Need-add-entry
-add-entry c = search needs
-
-entry-requires : tie.Need-entry-requires
-entry-requires c κs = search needs
+box-at-requires : tie.Need-box-at-requires
+box-at-requires c κs = let q = c .before .before .before .before .before .pre in (q .0 .tabled, q .1 .known)
 
 slice-aggregate-shape-of : tie.Need-slice-aggregate-shape-of
 slice-aggregate-shape-of c = search needs
@@ -46,14 +30,14 @@ slice-aggregate-shape-of-3 c = search needs
 
 shape-of-requires : tie.Need-shape-of-requires
 shape-of-requires c κs =
-    let q = c .before .before .before .before .before .before .before .before .before .before .pre in
+    let q = c .before .before .before .before .before .before .before .before .before .pre in
     let h = q .0 .tabled in
-    (omega (arith, h .within .wires, h .long), (box-ready _ _ _ h _ (q .1 .known) _ (at-is (c .before .before .before)), (omega arith, omega arith, omega arith)))
+    (omega (arith, h .within .wires, h .long), (box-ready _ _ _ h _ (q .1 .known) _ (c .before .before .before .box-at .ensures .0), (omega arith, omega arith, omega arith)))
 
 rule-body-requires : tie.Need-rule-body-requires
 rule-body-requires c κs =
-    let q = c .before .before .before .before .before .before .before .before .before .before .before .before .before .before .pre in
-    rule-inside _ _ _ (q .0 .tabled) _ _ (q .1 .known) (q .1 .there)
+    let q = c .before .before .before .before .before .before .before .before .before .before .before .before .before .pre in
+    (q .0 .tabled, (q .1 .known, q .1 .there))
 
 parts-of-requires : tie.Need-parts-of-requires
 parts-of-requires c κs = search needs
@@ -70,8 +54,8 @@ returns c =
     let body = laid .before in
     let shape = body .before .before .before .before in
     let entry = shape .before .before .before .before in
-    let q = entry .before .before .before .before .before .before .before .pre in
-    absurd (is-whole _ _ _ _ _ _ (q .0) _ (q .1 .known) _ (at-is entry) _ _ _ _ (shape .shape-of .ensures) _ (q .1 .there) _ (body-is body) (sym (c .enum-told .given .1) ∙ laid .parts-of .ensures))
+    let q = entry .before .before .before .before .before .before .pre in
+    absurd (is-whole _ _ _ _ _ _ (q .0) _ (q .1 .known) _ (entry .box-at .ensures .0) _ _ _ _ (shape .shape-of .ensures) _ (q .1 .there) _ (body-is body) (sym (c .enum-told .given .1) ∙ laid .parts-of .ensures))
 
 slice-aggregate-scope : tie.Need-slice-aggregate-scope
 slice-aggregate-scope c = search needs
@@ -84,15 +68,15 @@ scope-requires c κs =
     let body = c .before .before .before .before .before .before in
     let shape = body .before .before .before .before in
     let entry = shape .before .before .before .before in
-    let q = entry .before .before .before .before .before .before .before .pre in
-    let w = ready _ _ _ _ _ _ (q .0) _ (q .1 .known) _ (at-is entry) _ _ _ _ (shape .shape-of .ensures) _ (q .1 .there) _ (body-is body) in
+    let q = entry .before .before .before .before .before .before .pre in
+    let w = ready _ _ _ _ _ _ (q .0) _ (q .1 .known) _ (entry .box-at .ensures .0) _ _ _ _ (shape .shape-of .ensures) _ (q .1 .there) _ (body-is body) in
     ((w .few-ins, w .few-vars), ins-read _ _ _ (w .laid))
 
 view-of-requires : tie.Need-view-of-requires
 view-of-requires c κs =
     let body = c .before .before .before .before .before .before .before .before in
     let entry = body .before .before .before .before .before .before .before .before in
-    let q = entry .before .before .before .before .before .before .before .pre in
+    let q = entry .before .before .before .before .before .before .pre in
     (q .0, omega (arith, q .1 .known))
 
 apply-requires : tie.Need-apply-requires
@@ -104,9 +88,9 @@ apply-requires c κs =
     let body = laid .before in
     let shape = body .before .before .before .before in
     let entry = shape .before .before .before .before in
-    let q = entry .before .before .before .before .before .before .before .pre in
+    let q = entry .before .before .before .before .before .before .pre in
     let y = sym (parts .parts .given .1) ∙ laid .parts-of .ensures in
-    (q .0, works _ _ _ _ _ _ (q .0) _ (q .1 .known) _ (at-is entry) _ _ _ _ (shape .shape-of .ensures) _ (q .1 .there) _ (body-is body) _ y _ (seen .view-of .ensures) _ (typed .scope .ensures) (q .1 .sound))
+    (q .0, works _ _ _ _ _ _ (q .0) _ (q .1 .known) _ (entry .box-at .ensures .0) _ _ _ _ (shape .shape-of .ensures) _ (q .1 .there) _ (body-is body) _ y _ (seen .view-of .ensures) _ (typed .scope .ensures) (q .1 .sound))
 
 same-length : tie.Need-same-length
 same-length c = search needs
@@ -121,17 +105,15 @@ returns-2 c =
     let body = laid .before in
     let shape = body .before .before .before .before in
     let entry = shape .before .before .before .before in
-    let q = entry .before .before .before .before .before .before .before .pre in
+    let q = entry .before .before .before .before .before .before .pre in
     let y = sym (parts .parts .given .1) ∙ laid .parts-of .ensures in
-    fired-as _ _ _ _ _ _ (q .0) _ (q .1 .known) _ (at-is entry) _ _ _ _ (shape .shape-of .ensures) _ (q .1 .there) _ (body-is body) _ y _ (seen .view-of .ensures) _ (typed .scope .ensures) _ (done .apply .ensures)
+    fired-as _ _ _ _ _ _ (q .0) _ (q .1 .known) _ (entry .box-at .ensures .0) _ _ _ _ (shape .shape-of .ensures) _ (q .1 .there) _ (body-is body) _ y _ (seen .view-of .ensures) _ (typed .scope .ensures) _ (done .apply .ensures)
 
 pub fire-box-spec : {M : Type 1} → statement M
 fire-box-spec =
     tie.close
     (tie.spec
-    wide-requires
-    add-entry
-    entry-requires
+    box-at-requires
     slice-aggregate-shape-of
     slice-aggregate-shape-of-2
     slice-aggregate-shape-of-3

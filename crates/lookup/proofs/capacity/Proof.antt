@@ -1,12 +1,7 @@
-use Rattle.lookup.proofs.Laws.{wire-capacity}
+use Rattle.lookup.proofs.Laws.{capacity-read}
 use borrow.Author.Needs.{needs}
 use Rattle.lookup.proofs.capacity.Statement.{statement}
 use Rattle.lookup.proofs.capacity.Tie as tie
-use Rattle.lookup.proofs.capacity.Reads as reads
-use Rattle.lookup.proofs.capacity.Lts as lts
-use Rattle.octets.proofs.byte_at.Reads as byte-at-reads
-use Rattle.octets.proofs.entry.Reads as entry-reads
-use Rattle.octets.proofs.wide.Reads as wide-reads
 
 wide-requires : tie.Need-wide-requires
 wide-requires c κs = search needs
@@ -25,9 +20,9 @@ wide-requires-2 c κs = search needs
 
 returns : tie.Need-returns
 returns c =
-    let entry = c .before .before in
-    let start = entry .before .before .before .before in
-    (wire-capacity (start .args .net .now) (start .args .table .now) (start .args .w .0) (entry .before .wide .result) (entry .entry .result) (c .before .byte-at .result) (c .wide2 .result) (entry .before .wide .ensures .0) (entry .entry .ensures .0) (c .before .byte-at .ensures) (c .wide2 .ensures .0), c .wide2 .ensures .1)
+    let at = c .before .before in
+    let h = at .before .before .before .before .pre in
+    (capacity-read _ _ _ (h .0) _ _ _ (h .1) (at .before .wide .ensures .0) (at .entry .ensures .0) _ _ (c .before .byte-at .ensures) (c .wide2 .ensures .0), c .wide2 .ensures .1)
 
 pub capacity-spec : {M : Type 1} → statement M
 capacity-spec =

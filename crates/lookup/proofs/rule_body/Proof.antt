@@ -1,12 +1,18 @@
-use Rattle.lookup.proofs.Laws.{at-rule, in-file}
+use mathlib.Core.Path.{_≡_}
+use Rattle.model.specs.NetworkFile.{ruleAt}
+use Rattle.table.specs.Table.{indexIn}
+use Rattle.lookup.proofs.Tabled.{rule-inside}
+use Rattle.lookup.proofs.Laws.{in-file, rule-read}
 use borrow.Author.Needs.{needs}
 use Rattle.lookup.proofs.rule_body.Statement.{statement}
 use Rattle.lookup.proofs.rule_body.Tie as tie
-use Rattle.lookup.proofs.rule_body.Reads as reads
-use Rattle.lookup.proofs.rule_body.Lts as lts
-use Rattle.lookup.proofs.body_at.Reads as body-at-reads
-use Rattle.octets.proofs.entry.Reads as entry-reads
-use Rattle.octets.proofs.wide.Reads as wide-reads
+
+-- the offset of the rule's field
+at-is : (c : tie.After-entry2) → let a = c .before .before .before .before .before .before .args in c .entry2 .result ≡ ruleAt (indexIn (a .table .now) (a .c)) (a .b .0) (a .r .0)
+at-is c =
+    let first = c .before .before in
+    let h = first .before .before .before .before .pre in
+    rule-read _ _ _ (h .0) _ _ _ _ _ _ (h .1 .0) (h .1 .1) (first .before .wide .ensures .0) (first .entry .ensures .0) (c .before .wide2 .ensures .0) (c .entry2 .ensures .0)
 
 wide-requires : tie.Need-wide-requires
 wide-requires c κs = search needs
@@ -31,16 +37,11 @@ entry-requires-2 c κs = search needs
 
 body-at-requires : tie.Need-body-at-requires
 body-at-requires c κs =
-    let first = c .before .before in
-    let start = first .before .before .before .before in
-    (c .entry2 .ensures .1, in-file _ _ _ (at-rule (start .args .table .now) (start .args .b .0) (start .args .r .0) (first .before .wide .result) (first .entry .result) (c .before .wide2 .result) (c .entry2 .result) (first .before .wide .ensures .0) (first .entry .ensures .0) (c .before .wide2 .ensures .0) (c .entry2 .ensures .0)) (start .pre))
+    let h = c .before .before .before .before .before .before .pre in
+    (c .entry2 .ensures .1, in-file _ _ _ (at-is c) (rule-inside _ _ _ (h .0) _ _ (h .1 .0) (h .1 .1)))
 
 returns : tie.Need-returns
-returns c =
-    let last = c .before in
-    let first = last .before .before in
-    let start = first .before .before .before .before in
-    rw (at-rule (start .args .table .now) (start .args .b .0) (start .args .r .0) (first .before .wide .result) (first .entry .result) (last .before .wide2 .result) (last .entry2 .result) (first .before .wide .ensures .0) (first .entry .ensures .0) (last .before .wide2 .ensures .0) (last .entry2 .ensures .0)) at (c .body-at .ensures)
+returns c = rw (at-is (c .before)) at (c .body-at .ensures)
 
 pub rule-body-spec : {M : Type 1} → statement M
 rule-body-spec =

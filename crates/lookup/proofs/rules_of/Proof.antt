@@ -1,13 +1,19 @@
+use mathlib.Core.Path.{_≡_}
+use Prim.Native.Nat.{_-_}
 use native.Mathlib.Omega.{arith}
-use Rattle.lookup.proofs.Laws.{rules-in}
+use lib.ListN.{length}
+use Rattle.model.specs.NetworkFile.{boxAt}
+use Rattle.table.specs.Table.{indexIn}
+use Rattle.lookup.proofs.Laws.{rules-read}
 use borrow.Author.Needs.{needs}
 use Rattle.lookup.proofs.rules_of.Statement.{statement}
 use Rattle.lookup.proofs.rules_of.Tie as tie
-use Rattle.lookup.proofs.rules_of.Reads as reads
-use Rattle.lookup.proofs.rules_of.Lts as lts
-use Rattle.lookup.proofs.rules_end.Reads as rules-end-reads
-use Rattle.octets.proofs.entry.Reads as entry-reads
-use Rattle.octets.proofs.wide.Reads as wide-reads
+
+many : (c : tie.After-rules-end) → let a = c .before .before .before .before .before .args in c .rules-end .result - c .before .entry .result ≡ length ((boxAt (a .net .now) (indexIn (a .table .now) (a .c)) (a .b .0)) .rules)
+many c =
+    let at = c .before in
+    let h = at .before .before .before .before .pre in
+    rules-read _ _ _ (h .0) _ _ _ _ (h .1) (at .before .wide .ensures .0) (at .entry .ensures .0) (c .rules-end .ensures)
 
 wide-requires : tie.Need-wide-requires
 wide-requires c κs = search needs
@@ -22,18 +28,10 @@ rules-end-requires : tie.Need-rules-end-requires
 rules-end-requires c κs = search needs
 
 returns : tie.Need-returns
-returns c =
-    let end = c .before in
-    let start = end .before .before .before .before in
-    let e = rules-in (start .args .table .now) (start .args .boxes) (start .args .rules) (start .args .b .0) (end .before .before .wide .result) (end .before .entry .result) (end .rules-end .result) (end .before .before .wide .ensures .0) (end .before .entry .ensures .0) (end .rules-end .ensures) in
-    omega (arith, e)
+returns c = omega (arith, many (c .before))
 
 returns-2 : tie.Need-returns-2
-returns-2 c =
-    let end = c .before in
-    let start = end .before .before .before .before in
-    let e = rules-in (start .args .table .now) (start .args .boxes) (start .args .rules) (start .args .b .0) (end .before .before .wide .result) (end .before .entry .result) (end .rules-end .result) (end .before .before .wide .ensures .0) (end .before .entry .ensures .0) (end .rules-end .ensures) in
-    e
+returns-2 c = many (c .before)
 
 pub rules-of-spec : {M : Type 1} → statement M
 rules-of-spec =

@@ -1,9 +1,6 @@
-use mathlib.Core.Path.{_≡_}
-use Prim.Native.Nat.{ℕ, _+_, _≤_, _<_}
+use Prim.Native.Nat.{ℕ, _≤_, _<_}
 use native.Mathlib.Omega.{arith}
 use borrow.Author.Needs.{needs}
-use lib.ListN.{getD}
-use Rattle.lookup.proofs.Laws.{at-entry}
 use Rattle.marking.proofs.Boxes.{box-ready, rules-ready}
 use Rattle.marking.proofs.Boxmarks.{box-marked}
 use Rattle.marking.proofs.mark_box.Statement.{statement}
@@ -12,20 +9,8 @@ use Rattle.marking.proofs.mark_box.Tie as tie
 small : {m n : ℕ} → m < n → m ≤ n
 small l = omega (arith, l)
 
--- the offset of the box's field
-at-is : (c : tie.After-entry) → let a = c .before .before .before .before .before .before .before .args in c .entry .result ≡ getD (a .table .now) (64 + a .k .0) 0
-at-is c =
-    let a = c .before .before .before .before .before .before .before .args in
-    at-entry (a .table .now) 64 (a .k .0) (c .before .wide .result) (c .entry .result) (c .before .wide .ensures .0) (c .entry .ensures .0)
-
-wide-requires : tie.Need-wide-requires
-wide-requires c κs = search needs
-
-add-entry : tie.Need-add-entry
-add-entry c = search needs
-
-entry-requires : tie.Need-entry-requires
-entry-requires c κs = search needs
+box-at-requires : tie.Need-box-at-requires
+box-at-requires c κs = search needs
 
 slice-aggregate-shape-of : tie.Need-slice-aggregate-shape-of
 slice-aggregate-shape-of c = search needs
@@ -38,15 +23,15 @@ slice-aggregate-shape-of-3 c = search needs
 
 shape-of-requires : tie.Need-shape-of-requires
 shape-of-requires c κs =
-    let q = c .before .before .before .before .before .before .before .before .before .before .pre in
+    let q = c .before .before .before .before .before .before .before .before .before .pre in
     let h = q .0 .tabled in
-    (omega (arith, h .within .wires, h .long), (box-ready _ _ _ h _ (q .1) _ (at-is (c .before .before .before)), (omega arith, omega arith, omega arith)))
+    (omega (arith, h .within .wires, h .long), (box-ready _ _ _ h _ (q .1) _ (c .before .before .before .box-at .ensures .0), (omega arith, omega arith, omega arith)))
 
 view-of-requires : tie.Need-view-of-requires
 view-of-requires c κs = search needs
 
 rules-of-requires : tie.Need-rules-of-requires
-rules-of-requires c κs = search needs
+rules-of-requires c κs = let q = c .before .before .before .before .before .before .before .before .before .before .before .before .before .before .before .before .before .pre in (q .0 .tabled, q .1)
 
 slice-aggregate-search : tie.Need-slice-aggregate-search
 slice-aggregate-search c = search needs
@@ -63,16 +48,16 @@ slice-aggregate-search-4 c = search needs
 search-requires : tie.Need-search-requires
 search-requires c κs =
     let d = c .before .before .before .before .before .before .before .before .before .before .before .before .before in
-    let q = d .before .before .before .before .before .before .before .before .before .before .before .pre in (
-      rules-ready _ _ _ (q .0 .tabled) _ (q .1) _ (at-is (d .before .before .before .before)) _ _ _ _ (d .shape-of .ensures) _ (c .before .before .before .before .before .rules-of .ensures),
+    let q = d .before .before .before .before .before .before .before .before .before .before .pre in (
+      rules-ready _ _ _ (q .0 .tabled) _ (q .1) _ (d .before .before .before .before .box-at .ensures .0) _ _ _ _ (d .shape-of .ensures) _ (c .before .before .before .before .before .rules-of .ensures),
       record { each = λ i. small (c .before .before .before .before .before .before .before .before .before .view-of .ensures .small i) },
     )
 
 returns : tie.Need-returns
 returns c =
     let d = c .before .before .before .before .before .before .before .before .before .before .before .before .before .before in
-    let q = d .before .before .before .before .before .before .before .before .before .before .before .pre in
-    box-marked _ _ _ _ _ _ (q .0) _ (q .1) _ (at-is (d .before .before .before .before)) _ _ _ _ (d .shape-of .ensures) _ (c .before .before .before .before .before .before .before .before .before .before .view-of .ensures) _ (c .before .before .before .before .before .before .rules-of .ensures) (c .search .ensures)
+    let q = d .before .before .before .before .before .before .before .before .before .before .pre in
+    box-marked _ _ _ _ _ _ (q .0) _ (q .1) _ (d .before .before .before .before .box-at .ensures .0) _ _ _ _ (d .shape-of .ensures) _ (c .before .before .before .before .before .before .before .before .before .before .view-of .ensures) _ (c .before .before .before .before .before .before .rules-of .ensures) (c .search .ensures)
 
 pub mark-box-spec : {M : Type 1} → statement M
-mark-box-spec = tie.close (tie.spec wide-requires add-entry entry-requires slice-aggregate-shape-of slice-aggregate-shape-of-2 slice-aggregate-shape-of-3 shape-of-requires view-of-requires rules-of-requires slice-aggregate-search slice-aggregate-search-2 slice-aggregate-search-3 slice-aggregate-search-4 search-requires returns)
+mark-box-spec = tie.close (tie.spec box-at-requires slice-aggregate-shape-of slice-aggregate-shape-of-2 slice-aggregate-shape-of-3 shape-of-requires view-of-requires rules-of-requires slice-aggregate-search slice-aggregate-search-2 slice-aggregate-search-3 slice-aggregate-search-4 search-requires returns)

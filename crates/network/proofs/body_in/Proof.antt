@@ -1,15 +1,8 @@
 use native.Mathlib.Omega.{arith}
-use Rattle.lookup.proofs.Tabled.{rule-inside}
 use Rattle.network.proofs.Bodies.{lies, no-box, no-rule, known}
 use borrow.Author.Needs.{needs}
 use Rattle.network.proofs.body_in.Statement.{statement}
 use Rattle.network.proofs.body_in.Tie as tie
-use Rattle.network.proofs.body_in.Reads as reads
-use Rattle.network.proofs.body_in.Lts as lts
-use Rattle.lookup.proofs.rule_body.Reads as rule-body-reads
-use Rattle.lookup.proofs.rules_of.Reads as rules-of-reads
-use Rattle.octets.proofs.part.Reads as part-reads
-use Rattle.octets.proofs.wide.Reads as wide-reads
 
 wide-requires : tie.Need-wide-requires
 wide-requires c κs = search needs
@@ -19,9 +12,9 @@ part-requires c κs = search needs
 
 returns : tie.Need-returns
 returns c =
-    let s = c .before .before .before .before .before in
+    let s = c .before .before .before .before .before .before in
     let a = s .args in
-    lies (a .net) (c .part .result) (a .b .0) (a .r .0) _ _ (no-box (a .net .now) (a .table .now) (a .c) (s .pre) (a .b .0) (a .r .0) (omega (arith, c .before .if1 .taken, c .before .before .wide .ensures))) (c .part .ensures)
+    lies (a .net) (c .part .result) (a .b .0) (a .r .0) _ _ (no-box (a .net .now) (a .table .now) (a .c) (s .pre) (a .b .0) (a .r .0) (omega (arith, c .before .if1 .taken, c .before .before .before .wide .ensures))) (c .part .ensures)
 
 rules-of-requires : tie.Need-rules-of-requires
 rules-of-requires c κs = search needs
@@ -35,25 +28,21 @@ part-requires-2 c κs = search needs
 returns-2 : tie.Need-returns-2
 returns-2 c =
     let i = c .before .before .before .before in
-    let s = i .before .before .before .before in
+    let s = i .before .before .before .before .before in
     let a = s .args in
     lies (a .net) (c .part2 .result) (a .b .0) (a .r .0) _ _
-    (no-rule (a .net .now) (a .table .now) (a .c) (s .pre) (a .b .0) (a .r .0) (omega (arith, i .if1 .left, i .before .wide .ensures)) (omega (arith, c .before .if2 .taken, c .before .before .wide2 .ensures, c .before .before .before .rules-of .ensures))) (c .part2 .ensures)
+    (no-rule (a .net .now) (a .table .now) (a .c) (s .pre) (a .b .0) (a .r .0) (omega (arith, i .if1 .left, i .before .before .wide .ensures)) (omega (arith, c .before .if2 .taken, c .before .before .wide2 .ensures, c .before .before .before .rules-of .ensures))) (c .part2 .ensures)
 
 rule-body-requires : tie.Need-rule-body-requires
-rule-body-requires c κs =
-    let i = c .before .before .before in
-    let s = i .before .before .before .before in
-    let a = s .args in
-    rule-inside (a .net .now) (a .table .now) (a .c) (s .pre) (a .b .0) (a .r .0) (omega (arith, i .if1 .left, i .before .wide .ensures)) (omega (arith, c .if2 .left, c .before .wide2 .ensures, c .before .before .rules-of .ensures))
+rule-body-requires c κs = search needs
 
 returns-3 : tie.Need-returns-3
 returns-3 c =
     let i = c .before .before .before .before in
-    let s = i .before .before .before .before in
+    let s = i .before .before .before .before .before in
     let a = s .args in
     lies (a .net) (c .rule-body .result) (a .b .0) (a .r .0) _ _
-    (known (a .net .now) (a .table .now) (a .c) (s .pre) (a .b .0) (a .r .0) (omega (arith, i .if1 .left, i .before .wide .ensures)) (omega (arith, c .before .if2 .left, c .before .before .wide2 .ensures, c .before .before .before .rules-of .ensures))) (c .rule-body .ensures)
+    (known (a .net .now) (a .table .now) (a .c) (s .pre) (a .b .0) (a .r .0) (omega (arith, i .if1 .left, i .before .before .wide .ensures)) (omega (arith, c .before .if2 .left, c .before .before .wide2 .ensures, c .before .before .before .rules-of .ensures))) (c .rule-body .ensures)
 
 pub body-in-spec : {M : Type 1} → statement M
 body-in-spec =

@@ -1,24 +1,16 @@
 use Prim.Native.Nat.{_-_}
 use mathlib.Core.Path.{_∙_}
 use native.Mathlib.Omega.{arith}
-use Rattle.lookup.proofs.Tabled.{box-inside}
 use Rattle.places.proofs.Laws.{size-wire, size-box, size-input, size-output}
 use borrow.Author.Needs.{needs}
 use Rattle.places.proofs.segment_size.Statement.{statement}
 use Rattle.places.proofs.segment_size.Tie as tie
-use Rattle.places.proofs.segment_size.Reads as reads
-use Rattle.places.proofs.segment_size.Lts as lts
-use Rattle.lookup.proofs.box_body.Reads as box-body-reads
-use Rattle.lookup.proofs.capacity.Reads as capacity-reads
-use Rattle.lookup.proofs.room.Reads as room-reads
-use Rattle.octets.proofs.byte_at.Reads as byte-at-reads
-use Rattle.octets.proofs.wide.Reads as wide-reads
 
 cast-t10 : tie.Need-cast-t10
 cast-t10 c = search needs
 
 capacity-requires : tie.Need-capacity-requires
-capacity-requires c κs = search needs
+capacity-requires c κs = (c .before .before .before .before .pre .0, c .if1 .taken)
 
 mul-result : tie.Need-mul-result
 mul-result c = search needs
@@ -37,7 +29,7 @@ cast-wide c = search needs
 box-body-requires : tie.Need-box-body-requires
 box-body-requires c κs =
     let start = c .before .before .before .before .before .before .before in
-    box-inside (start .args .net .now) (start .args .table .now) (start .args .c) (start .pre .0) (start .args .j - start .args .c .wires) (c .if2 .taken)
+    (start .pre .0, c .if2 .taken)
 
 byte-at-requires : tie.Need-byte-at-requires
 byte-at-requires c κs = search needs
@@ -52,13 +44,16 @@ returns-2 : tie.Need-returns-2
 returns-2 c =
     let start = c .before .before .before .before .before .before .before .before .before .before in
     let body = c .before .before in
-    size-box (start .args .net .now) (start .args .table .now) (start .args .c) (start .pre .0) (start .args .j) (start .args .j - start .args .c .wires) (c .wide .result) (omega arith) (body .before .if2 .taken)
+    size-box (start .args .net .now) (start .args .table .now) (start .args .c) (start .pre .0) (start .args .j) (start .args .j - start .args .c .wires) (omega arith) (c .wide .result) (body .before .if2 .taken)
     (c .wide .ensures .0 ∙ rw (body .box-body .ensures) at (c .before .byte-at .ensures))
 
 returns-3 : tie.Need-returns-3
 returns-3 c =
     let start = c .before .before .before .before .before .before .before .before .before .before in
-    size-input (start .args .net .now) (start .args .table .now) (start .args .c) (start .pre .0) (start .args .j) (start .args .j - start .args .c .wires - start .args .c .boxes) (omega arith) (c .if3 .taken)
+    size-input (start .args .net .now) (start .args .table .now) (start .args .c) (start .pre .0) (start .args .j) (start .args .j - start .args .c .wires) (omega arith) (omega arith) (omega (arith, c .if3 .taken))
+
+cast-t17 : tie.Need-cast-t17
+cast-t17 c = search needs
 
 room-requires : tie.Need-room-requires
 room-requires c κs = search needs
@@ -71,8 +66,8 @@ add-result-2 c = search needs
 
 returns-4 : tie.Need-returns-4
 returns-4 c =
-    let start = c .before .before .before .before .before .before .before .before .before .before .before .before in
-    size-output (start .args .net .now) (start .args .table .now) (start .args .c) (start .pre .0) (start .args .j) (start .args .j - start .args .c .wires - start .args .c .boxes - start .args .c .inputs) (c .room .result) (omega arith) (omega arith) (c .room .ensures .0)
+    let start = c .before .before .before .before .before .before .before .before .before .before .before in
+    size-output (start .args .net .now) (start .args .table .now) (start .args .c) (start .pre .0) (start .args .j) (start .args .j - start .args .c .wires) (omega arith) (c .room .result) (omega arith) (omega arith) (c .room .ensures .0)
 
 pub segment-size-spec : {M : Type 1} → statement M
 segment-size-spec =
@@ -90,6 +85,7 @@ segment-size-spec =
     mul-result-2
     returns-2
     returns-3
+    cast-t17
     room-requires
     mul-result-3
     add-result-2

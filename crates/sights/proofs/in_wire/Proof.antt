@@ -1,15 +1,11 @@
 use borrow.Author.Needs.{needs}
 use native.Mathlib.Omega.{arith}
-use Rattle.lookup.proofs.Tabled.{box-inside}
 use Rattle.sights.proofs.Ports.{box-is, in-wire-is}
 use Rattle.sights.proofs.in_wire.Statement.{statement}
 use Rattle.sights.proofs.in_wire.Tie as tie
 
 box-body-requires : tie.Need-box-body-requires
-box-body-requires c κs =
-    let start = c .before .before in
-    let a = start .args in
-    box-inside (a .net .now) (a .table .now) (a .c) (start .pre .0) (a .b .0) (start .pre .1 .0)
+box-body-requires c κs = let start = c .before .before in (start .pre .0, start .pre .1 .0)
 
 add-byte-at : tie.Need-add-byte-at
 add-byte-at c =

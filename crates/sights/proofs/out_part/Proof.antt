@@ -1,16 +1,12 @@
 use borrow.Author.Needs.{needs}
 use native.Mathlib.Omega.{arith}
-use Rattle.lookup.proofs.Tabled.{box-inside}
 use Rattle.sights.proofs.Ports.{outs-count}
 use Rattle.sights.proofs.Sights.{at-port}
 use Rattle.sights.proofs.out_part.Statement.{statement}
 use Rattle.sights.proofs.out_part.Tie as tie
 
 box-body-requires : tie.Need-box-body-requires
-box-body-requires c κs =
-    let start = c .before .before .before .before .before in
-    let a = start .args in
-    box-inside (a .net .now) (a .table .now) (a .c) (start .pre .0 .tabled) (a .k .0) (start .pre .1)
+box-body-requires c κs = let start = c .before .before .before .before .before in (start .pre .0 .tabled, start .pre .1)
 
 byte-at-requires : tie.Need-byte-at-requires
 byte-at-requires c κs = search needs

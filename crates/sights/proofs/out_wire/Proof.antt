@@ -1,16 +1,12 @@
 use borrow.Author.Needs.{needs}
 use native.Mathlib.Omega.{arith}
 use mathlib.Core.Path.{_∙_}
-use Rattle.lookup.proofs.Tabled.{box-inside}
 use Rattle.sights.proofs.Ports.{box-is, out-wire-is}
 use Rattle.sights.proofs.out_wire.Statement.{statement}
 use Rattle.sights.proofs.out_wire.Tie as tie
 
 box-body-requires : tie.Need-box-body-requires
-box-body-requires c κs =
-    let start = c .before .before in
-    let a = start .args in
-    box-inside (a .net .now) (a .table .now) (a .c) (start .pre .0) (a .b .0) (start .pre .1 .0)
+box-body-requires c κs = let start = c .before .before in (start .pre .0, start .pre .1 .0)
 
 byte-at-requires : tie.Need-byte-at-requires
 byte-at-requires c κs = search needs

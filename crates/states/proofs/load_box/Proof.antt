@@ -4,7 +4,6 @@ use native.Mathlib.Omega.{arith}
 use lib.ListN.{length, getD}
 use borrow.Author.Needs.{needs}
 use borrow.Rule.Slice.PartMut.{mid-len}
-use Rattle.lookup.proofs.Tabled.{box-inside}
 use Rattle.places.specs.Standing.{bareNet}
 use Rattle.states.proofs.Loads.{box-long, put-box}
 use Rattle.states.proofs.load_box.Statement.{statement}
@@ -19,7 +18,7 @@ own-span-requires c κs =
 box-body-requires : tie.Need-box-body-requires
 box-body-requires c κs =
     let start = c .before .before .before .before .before in
-    box-inside (start .args .net .now) (start .args .table .now) (start .args .c) (start .pre .0) (start .args .k .0) (start .pre .1 .1 .0)
+    (start .pre .0, start .pre .1 .1 .0)
 
 sub-load-values : tie.Need-sub-load-values
 sub-load-values c = search needs

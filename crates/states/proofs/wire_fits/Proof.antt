@@ -3,7 +3,6 @@ use Prim.Native.Nat.{_≤_}
 use native.Mathlib.Omega.{arith}
 use lib.ListN.{length}
 use Rattle.places.specs.Standing.{bareNet}
-use Rattle.token_file.proofs.Ends.{wire-fine}
 use Rattle.states.proofs.Fits.{wire-long, wire-part}
 use Rattle.states.proofs.wire_fits.Statement.{statement}
 use Rattle.states.proofs.wire_fits.Tie as tie
@@ -15,10 +14,10 @@ wire-span-requires c κs =
     (start .pre .0, (start .pre .1 .0, start .pre .1 .1 .0))
 
 wire-type-requires : tie.Need-wire-type-requires
-wire-type-requires c κs = search needs
+wire-type-requires c κs = let start = c .before .before .before .before .before in (start .pre .0, start .pre .1 .1 .0)
 
 capacity-requires : tie.Need-capacity-requires
-capacity-requires c κs = search needs
+capacity-requires c κs = let start = c .before .before .before .before .before .before in (start .pre .0, start .pre .1 .1 .0)
 
 sub-wire-fits : tie.Need-sub-wire-fits
 sub-wire-fits c = search needs
@@ -38,17 +37,14 @@ wire-fits-requires c κs =
     let r = c .before .before .before .wire-span in
     let y = c .before .before .wire-type in
     let inside : r .result .end ≤ length (start .args .state .now) = omega (arith, r .ensures .inside, start .pre .1 .1 .1) in
-    let g = (wire-fine (start .args .net .now) (start .args .table .now) (start .args .c) (start .pre .0) (start .args .w .0) (start .pre .1 .1 .0)) .ty in
-    let low : 1 ≤ y .result .p = rw (y .ensures) (g .low) in
-    let high : y .result .p ≤ 30 = rw (y .ensures) (g .high) in
-    (low, (high, wire-long (start .args .net .now) (start .args .table .now) (start .args .c) (start .pre .0) (start .args .w .0) (r .result .start) (r .result .end) (c .before .capacity .result) (start .args .state .now) (start .pre .1 .1 .0) (r .ensures .end) inside (c .before .capacity .ensures .0)))
+    (y .ensures .1 .low, (y .ensures .1 .high, wire-long (start .args .net .now) (start .args .table .now) (start .args .c) (start .pre .0) (start .args .w .0) (r .result .start) (r .result .end) (c .before .capacity .result) (start .args .state .now) (r .ensures .end) inside (c .before .capacity .ensures .0)))
 
 returns : tie.Need-returns
 unfolding bareNet
 returns c =
     let start = c .before .before .before .before .before .before .before .before .before in
     let r = c .before .before .before .before .wire-span in
-    wire-part (start .args .net .now) (start .args .table .now) (start .args .c) (start .pre .0) (start .args .w .0) (r .result .start) (r .result .end) _ _ (start .args .state .now) _ (start .pre .1 .1 .0) (r .ensures .start) (r .ensures .end) (c .before .before .before .wire-type .ensures) (c .before .before .capacity .ensures .0) (c .wire-fits .ensures)
+    wire-part (start .args .net .now) (start .args .table .now) (start .args .c) (start .pre .0) (start .args .w .0) (r .result .start) (r .result .end) _ _ (start .args .state .now) _ (r .ensures .start) (r .ensures .end) (c .before .before .before .wire-type .ensures .0) (c .before .before .capacity .ensures .0) (c .wire-fits .ensures)
 
 pub wire-fits-spec : {M : Type 1} → statement M
 wire-fits-spec =

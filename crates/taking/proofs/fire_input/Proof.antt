@@ -10,7 +10,7 @@ sub-i : tie.Need-sub-i
 sub-i c = search needs
 
 input-wire-requires : tie.Need-input-wire-requires
-input-wire-requires c κs = search needs
+input-wire-requires c κs = let h = c .before .before .before .before .before .before .before .before .pre in (h .0 .tabled, (h .1 .1 .least, h .1 .1 .known))
 
 own-part-requires : tie.Need-own-part-requires
 own-part-requires c κs = search needs

@@ -5,7 +5,6 @@ use lib.ListN.{length}
 use borrow.Author.Needs.{needs}
 use Rattle.model.specs.NetworkFile.{boxAt}
 use Rattle.table.specs.Table.{indexIn}
-use Rattle.lookup.proofs.Tabled.{box-inside}
 use Rattle.sights.proofs.Ports.{ins-count}
 use Rattle.taking.proofs.Reading.{Left, left-first, left-last, left-bad, left-asks, left-next}
 use Rattle.taking.proofs.take_read.Statement.{statement}
@@ -22,7 +21,7 @@ abbrev μ-loop : tie.MeasureT-loop
 box-body-requires : tie.Need-box-body-requires Inv-loop μ-loop
 box-body-requires c κs =
     let start = c .before .before .before .before .before .before in
-    box-inside _ _ _ (start .pre .0 .tabled) _ (start .pre .1 .known)
+    (start .pre .0 .tabled, start .pre .1 .known)
 
 byte-at-requires : tie.Need-byte-at-requires Inv-loop μ-loop
 byte-at-requires c κs = search needs

@@ -4,7 +4,7 @@ use native.Mathlib.Omega.{arith}
 use lib.ListN.{length, length-set}
 use Rattle.places.specs.Standing.{bareNet}
 use Rattle.token_file.specs.Fields.{right, wrong}
-use Rattle.token_file.proofs.Laws.{Upto, upto-first, upto-next, noted, end-zero, end-some, typesOf, types-length, type-at, type-precise, too-long, bad-there, extra-there, good-tokens, good-fields}
+use Rattle.token_file.proofs.Laws.{Upto, upto-first, upto-next, noted, end-zero, end-some, typesOf, types-length, too-long, bad-there, extra-there, good-tokens, good-fields}
 use Rattle.token_file.proofs.token_file.Statement.{statement}
 use Rattle.token_file.proofs.token_file.Tie as tie
 
@@ -28,12 +28,10 @@ loop-holds c =
 input-type-requires : tie.Need-input-type-requires Inv-loop μ-loop
 input-type-requires c κs =
     let start = c .before .before .before .before .before .before .before .before in
-    omega (arith, start .pre .0 .within, c .if2 .taken)
+    (start .pre .0, c .if2 .taken)
 
 field-end-requires : tie.Need-field-end-requires Inv-loop μ-loop
-field-end-requires c κs =
-    let start = c .before .before .before .before .before .before .before .before .before in
-    type-precise (start .args .net .now) (start .args .table .now) (start .args .c) (start .pre .0) (c .before .before .before .loop .i) (c .input-type .result) (c .before .if2 .taken) (c .input-type .ensures)
+field-end-requires c κs = (c .input-type .ensures .1 .low, c .input-type .ensures .1 .high)
 
 same-length : tie.Need-same-length Inv-loop μ-loop
 same-length c =
@@ -47,10 +45,9 @@ returns-2 c =
     let types = typesOf (start .args .net .now) (start .args .table .now) (start .args .c) in
     let y = c .before .before .input-type in
     let less = c .before .before .before .if2 .taken in
-    let e = type-at (start .args .net .now) (start .args .table .now) (start .args .c) (start .pre .0) (l .i) (y .result) less (y .ensures) in
     let long = types-length (start .args .net .now) (start .args .table .now) (start .args .c) (start .pre .0) in
     wrong (bad-there (start .args .net .now) (start .args .table .now) (start .args .c) (start .pre .0) (start .args .tokens .now) (l .fields) (l .at) (l .i) (l .inv .3) (c .before .before .before .before .before .before .if1 .left)
-    (end-zero types (start .args .tokens .now) (noted (start .args .tokens .now) (l .fields) (l .i)) (l .i) (l .at) (y .result) (omega (arith, long, less)) e (c .before .field-end .result) (c .before .field-end .ensures) (c .if3 .taken)))
+    (end-zero types (start .args .tokens .now) (noted (start .args .tokens .now) (l .fields) (l .i)) (l .i) (l .at) (y .result) (omega (arith, long, less)) (y .ensures .0) (c .before .field-end .result) (c .before .field-end .ensures) (c .if3 .taken)))
 
 cast-fields : tie.Need-cast-fields Inv-loop μ-loop
 cast-fields c =
@@ -79,9 +76,8 @@ loop-again c =
     let types = typesOf (start .args .net .now) (start .args .table .now) (start .args .c) in
     let y = c .before .before .input-type in
     let less = c .before .before .before .if2 .taken in
-    let e = type-at (start .args .net .now) (start .args .table .now) (start .args .c) (start .pre .0) (l .i) (y .result) less (y .ensures) in
     let long = types-length (start .args .net .now) (start .args .table .now) (start .args .c) (start .pre .0) in
-    let w = end-some types (start .args .tokens .now) (noted (start .args .tokens .now) (l .fields) (l .i)) (l .i) (l .at) (y .result) (omega (arith, long, less)) e (c .before .field-end .result) (c .before .field-end .ensures) (c .if3 .left) in
+    let w = end-some types (start .args .tokens .now) (noted (start .args .tokens .now) (l .fields) (l .i)) (l .i) (l .at) (y .result) (omega (arith, long, less)) (y .ensures .0) (c .before .field-end .result) (c .before .field-end .ensures) (c .if3 .left) in
     (omega (arith, less), length-set (l .fields) (l .i) _ ∙ l .inv .1, w .below, upto-next types (start .args .tokens .now) (l .fields) (l .at) (l .i) _ (l .inv .3) (omega (arith, less, start .pre .0 .within, start .pre .1, l .inv .1)) w)
 
 same-length-2 : tie.Need-same-length-2 Inv-loop μ-loop

@@ -7,9 +7,10 @@ use lib.ListN.{length}
 use borrow.Author.Needs.{needs}
 use borrow.Author.Tests.{not-true, not-false}
 use Rattle.model.specs.Rules.{ruleRead, readRule}
-use Rattle.model.specs.NetworkFile.{bodyAt}
+use Rattle.model.specs.NetworkFile.{bodyAt, ruleAt}
 use Rattle.model.specs.Cycles.{Mark, quiet, fires, faulty}
-use Rattle.lookup.specs.Entries.{ruleEntry}
+use Rattle.table.specs.declared.Counts.{Counts}
+use Rattle.table.specs.Table.{indexIn}
 use Rattle.shapes.specs.declared.Arity.{Arity}
 use Rattle.shapes.specs.Shapes.{typesIn}
 use Rattle.trying.specs.Views.{tokenOf, tryOn, markAs}
@@ -19,22 +20,22 @@ use Rattle.trying.proofs.search.Statement.{statement}
 use Rattle.trying.proofs.search.Tie as tie
 
 -- what comes of rule r
-abbrev trial : List ℕ → List ℕ → ℕ → Arity → List ℕ → List ℕ → List ℕ → List ℕ → List ℤ → ℕ → Mark
-trial s t k a ins vars heads full vals r = tryOn (typesIn ins (a .ins)) (typesIn vars (a .vars)) heads full vals (ruleRead (readRule (a .ins) (a .outs) (a .vars) (bodyAt s (ruleEntry t k r)))) r
+abbrev trial : List ℕ → List ℕ → Counts → ℕ → Arity → List ℕ → List ℕ → List ℕ → List ℕ → List ℤ → ℕ → Mark
+trial s t d k a ins vars heads full vals r = tryOn (typesIn ins (a .ins)) (typesIn vars (a .vars)) heads full vals (ruleRead (readRule (a .ins) (a .outs) (a .vars) (bodyAt s (ruleAt (indexIn t d) k r)))) r
 
 abbrev Inv-loop : tie.InvT-loop
-Inv-loop net table k count a ins vars heads full vals patterns r₀ body at₀ j₀ r at j =
+Inv-loop net table d k count a ins vars heads full vals patterns r₀ body at₀ j₀ r at j =
     let u = ruleRead (readRule (a .ins) (a .outs) (a .vars) body) in
     (r ≡ r₀) × (j ≤ patterns) × Before (tokenOf (length (u .ins)) heads vals) (u .ins ++ u .vars) j at
 
 abbrev μ-loop : tie.MeasureT-loop
-μ-loop net table k count a ins vars heads full vals patterns r₀ body at₀ j₀ r at j = patterns - j
+μ-loop net table d k count a ins vars heads full vals patterns r₀ body at₀ j₀ r at j = patterns - j
 
 abbrev Inv-rules : tie.InvT-rules
-Inv-rules net table k count a ins vars heads full vals patterns r₀ r = let f = trial net table (k .0) a ins vars heads full vals in (r ≤ count) × (from f count r ≡ from f count 0)
+Inv-rules net table d k count a ins vars heads full vals patterns r₀ r = let f = trial net table d (k .0) a ins vars heads full vals in (r ≤ count) × (from f count r ≡ from f count 0)
 
 abbrev μ-rules : tie.MeasureT-rules
-μ-rules net table k count a ins vars heads full vals patterns r₀ r = count - r
+μ-rules net table d k count a ins vars heads full vals patterns r₀ r = count - r
 
 add-patterns : tie.Need-add-patterns Inv-loop μ-loop Inv-rules μ-rules
 add-patterns c = let h = c .before .before .before .before .before .before .before .pre .0 in omega (arith, h .few-ins, h .few-vars)
@@ -42,16 +43,16 @@ add-patterns c = let h = c .before .before .before .before .before .before .befo
 rules-holds : tie.Need-rules-holds Inv-loop μ-loop Inv-rules μ-rules
 rules-holds c = (omega arith, refl)
 
-cast-t21 : tie.Need-cast-t21 Inv-loop μ-loop Inv-rules μ-rules
-cast-t21 c = let h = c .before .before .before .before .before .before .before .before .before .pre .0 in omega (arith, h .few, c .if1 .left)
+cast-t22 : tie.Need-cast-t22 Inv-loop μ-loop Inv-rules μ-rules
+cast-t22 c = let h = c .before .before .before .before .before .before .before .before .before .pre .0 in omega (arith, h .few, c .if1 .left)
 
 rule-body-requires : tie.Need-rule-body-requires Inv-loop μ-loop Inv-rules μ-rules
-rule-body-requires c κs = let h = c .before .before .before .before .before .before .before .before .before .pre .0 in h .inside (c .before .rules .r) (c .if1 .left)
+rule-body-requires c κs = let h = c .before .before .before .before .before .before .before .before .before .pre .0 in (h .tabled, (h .known, omega (arith, h .there, c .if1 .left)))
 
 -- the body that was found is that of the rule, and can be worked out
 body-is : (c : tie.After-rule-body Inv-loop μ-loop Inv-rules μ-rules)
     → let a = c .before .before .before .before .before .before .before .before .before .before .args in
-    c .rule-body .result .now ≡ bodyAt (a .net .now) (ruleEntry (a .table .now) (a .k .0) (c .before .before .rules .r))
+    c .rule-body .result .now ≡ bodyAt (a .net .now) (ruleAt (indexIn (a .table .now) (a .c)) (a .k .0) (c .before .before .rules .r))
 unfolding bodyAt
 body-is c = c .rule-body .ensures .bytes
 
@@ -65,14 +66,14 @@ ruled-here c =
 -- what the outer loop knows, at the inner loop's own r
 outer : (c : tie.At-loop Inv-loop μ-loop Inv-rules μ-rules)
     → let a = c .before .before .before .before .before .before .before .before .before .before .before .args in
-    let f = trial (a .net .now) (a .table .now) (a .k .0) (a .a) (a .ins .now) (a .vars .now) (a .heads .now) (a .full .now) (a .vals .now) in
+    let f = trial (a .net .now) (a .table .now) (a .c) (a .k .0) (a .a) (a .ins .now) (a .vars .now) (a .heads .now) (a .full .now) (a .vals .now) in
     (c .loop .r < a .count) × (from f (a .count) (c .loop .r) ≡ from f (a .count) 0)
     × (f (c .loop .r) ≡ tryOn (typesIn (a .ins .now) (a .a .ins)) (typesIn (a .vars .now) (a .a .vars)) (a .heads .now) (a .full .now) (a .vals .now) (ruleRead (readRule (a .a .ins) (a .a .outs) (a .a .vars) (c .before .rule-body .result .now))) (c .loop .r))
 outer c =
     let i = c .loop .inv in
     let a = c .before .before .before .before .before .before .before .before .before .before .before .args in
-    let f = trial (a .net .now) (a .table .now) (a .k .0) (a .a) (a .ins .now) (a .vars .now) (a .heads .now) (a .full .now) (a .vals .now) in
-    let e : bodyAt (a .net .now) (ruleEntry (a .table .now) (a .k .0) (c .loop .r)) ≡ c .before .rule-body .result .now = ap (λ (x : ℕ). bodyAt (a .net .now) (ruleEntry (a .table .now) (a .k .0) x)) (i .0) ∙ sym (body-is (c .before)) in (
+    let f = trial (a .net .now) (a .table .now) (a .c) (a .k .0) (a .a) (a .ins .now) (a .vars .now) (a .heads .now) (a .full .now) (a .vals .now) in
+    let e : bodyAt (a .net .now) (ruleAt (indexIn (a .table .now) (a .c)) (a .k .0) (c .loop .r)) ≡ c .before .rule-body .result .now = ap (λ (x : ℕ). bodyAt (a .net .now) (ruleAt (indexIn (a .table .now) (a .c)) (a .k .0) x)) (i .0) ∙ sym (body-is (c .before)) in (
       omega (arith, c .before .before .if1 .left, i .0),
       ap (from f (a .count)) (i .0) ∙ c .before .before .before .rules .inv .1,
       ap (λ (b : List ℕ). tryOn (typesIn (a .ins .now) (a .a .ins)) (typesIn (a .vars .now) (a .a .vars)) (a .heads .now) (a .full .now) (a .vals .now) (ruleRead (readRule (a .a .ins) (a .a .outs) (a .a .vars) b)) (c .loop .r)) e,
@@ -140,8 +141,8 @@ settle-requires c κs =
 enum-told : tie.Need-enum-told Inv-loop μ-loop Inv-rules μ-rules
 enum-told c = search needs
 
-cast-t27 : tie.Need-cast-t27 Inv-loop μ-loop Inv-rules μ-rules
-cast-t27 c = let l = c .before .before .before .before in omega (arith, outer l .0, l .before .before .before .before .before .before .before .before .before .before .before .pre .0 .few)
+cast-t28 : tie.Need-cast-t28 Inv-loop μ-loop Inv-rules μ-rules
+cast-t28 c = let l = c .before .before .before .before in omega (arith, outer l .0, l .before .before .before .before .before .before .before .before .before .before .before .pre .0 .few)
 
 enum-known-number : tie.Need-enum-known-number Inv-loop μ-loop Inv-rules μ-rules
 enum-known-number c = search needs
@@ -195,7 +196,7 @@ search-spec =
     μ-rules
     add-patterns
     rules-holds
-    cast-t21
+    cast-t22
     rule-body-requires
     loop-holds
     port-ready-requires
@@ -210,7 +211,7 @@ search-spec =
     loop-again
     settle-requires
     enum-told
-    cast-t27
+    cast-t28
     enum-known-number
     enum-told-2
     add-r-2
