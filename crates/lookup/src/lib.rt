@@ -98,6 +98,17 @@ pub fn rules_of(net: &[u8], table: &[u16], c: Counts, b: ProcessId) -> usize
     end - first
 }
 
+// Where the field of rule r of box b begins.
+pub fn rule_at(net: &[u8], table: &[u16], c: Counts, b: ProcessId, r: RuleId) -> usize
+    requires { ⌜ Tabled (now net) (now table) c ⌝ }
+    requires { ⌜ b .0 < c .boxes ⌝ }
+    requires { ⌜ r .0 < length ((boxAt (now net) (indexIn (now table) c) (b .0)) .rules) ⌝ }
+    ensures { λ x. ⌜ (x ≡ ruleAt (indexIn (now (table .entry)) c) (b .0) (r .0)) × (x < 65536) ⌝ }
+{
+    let first = octets::entry(table, 96 + octets::wide(b.0));
+    octets::entry(table, 128 + (first + octets::wide(r.0)))
+}
+
 // The body of rule r of box b, as that very part of the file.
 pub fn rule_body<'a>(net: &'a [u8], table: &[u16], c: Counts, b: ProcessId, r: RuleId) -> &'a [u8]
     requires { ⌜ Tabled (now net) (now table) c ⌝ }
@@ -105,8 +116,7 @@ pub fn rule_body<'a>(net: &'a [u8], table: &[u16], c: Counts, b: ProcessId, r: R
     requires { ⌜ r .0 < length ((boxAt (now net) (indexIn (now table) c) (b .0)) .rules) ⌝ }
     ensures { λ x. ⌜ PartOf (net .entry) (ruleAt (indexIn (now (table .entry)) c) (b .0) (r .0) + 3) (twoAt (now (net .entry)) (ruleAt (indexIn (now (table .entry)) c) (b .0) (r .0) + 1)) x ⌝ }
 {
-    let first = octets::entry(table, 96 + octets::wide(b.0));
-    let at = octets::entry(table, 128 + (first + octets::wide(r.0)));
+    let at = rule_at(net, table, c, b, r);
     body_at(net, at)
 }
 
