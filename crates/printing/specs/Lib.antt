@@ -1,0 +1,2 @@
+-- What the contracts of printing cite beside the model.
+pub mod Pages
