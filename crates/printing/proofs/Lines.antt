@@ -10,11 +10,13 @@ use native.Mathlib.Decide.{decLt}
 use lib.ListN.{length, getD, drop, replicate, drop-of-length-le}
 use lib.Seq.{drop-cons, drop-drop}
 use Rattle.model.specs.declared.Ty.{Ty}
+use Rattle.model.specs.declared.Refusal.{Refusal}
 use Rattle.model.specs.declared.Token.{Token}
 use Rattle.model.specs.Bytes.{twoAt, twoBytes, fourBytes, valueBytes}
 use Rattle.model.specs.Network.{Proc, box, input, output, Net, Own, vars, got, State, wire, proc, own, gotOf, nobody}
-use Rattle.model.specs.NetworkFile.{Index, inputAt, outputAt}
+use Rattle.model.specs.NetworkFile.{Index, inputAt, outputAt, refuse, next, byVerdict}
 use Rattle.model.specs.States.{tokenAt, readTokens, tokensBytes, tokenBytes, tokenFits, tokensFit, roomBytes, ownBytes}
+use Rattle.model.specs.Calls.{withTokens, held}
 use Rattle.model.specs.Printing.{shown, spaced, outputLine, outputLines}
 use Rattle.model.proofs.Tests.{and₂}
 use Rattle.model.proofs.Decoded.{GoodType, GoodProc}
@@ -26,7 +28,10 @@ use Rattle.queues.proofs.Queues.{got-count}
 use Rattle.lookup.proofs.Tabled.{n-boxes, n-inputs, n-outputs}
 use Rattle.places.specs.Standing.{tokensOf, netIn, Standing, stateOf}
 use Rattle.places.proofs.Standing.{net-all, state-good}
+use Rattle.opening.specs.Opening.{OpenState}
+use Rattle.opening.proofs.Laws.{whole-held}
 use Rattle.printing.specs.Pages.{Page, page, laid}
+use Rattle.printing.specs.Lines.{linesIn}
 use Rattle.printing.proofs.Pages.{then, as-said}
 
 -- ── tokens, one after another ────────────────────────────────────────────────────────────────
@@ -185,3 +190,13 @@ module _ (s t p ts b : List ℕ) (c : Counts) (h : Standing s t p ts b c) where
     lines-next i part o e f =
         let line : List ℕ = outputLine i (gotOf (own st k)) in
         then line (linesFrom n st (i + 1) (k + 1)) o (as-said o (ap (outputLine i) (got-at part e)) f) refl ∙ ap (λ (l : List ℕ). laid l o) (sym (lines-turn i))
+
+-- ── from the files and the lent bytes ────────────────────────────────────────────────────────
+
+pub no-lines : (s ts b : List ℕ) (x : Refusal) → next (withTokens s ts) (held true b) ≡ refuse (x .number) (x .place) → [] ≡ linesIn s ts b
+unfolding linesIn byVerdict
+no-lines s ts b x e = rw e
+
+pub lines-in : (s ts t p f b : List ℕ) (c : Counts) (size : ℕ) → OpenState s ts t p f b c size → outputLines 0 ((netIn s t c ts) .procs) ((stateOf s t c ts b) .owns) ≡ linesIn s ts b
+unfolding linesIn byVerdict
+lines-in s ts t p f b c size h = rw (whole-held s ts t p f b c size h)

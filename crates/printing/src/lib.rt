@@ -3,6 +3,7 @@ use model::Ending;
 use model::ProcessId;
 use model::Refusal;
 use model::Token;
+use opening::Opened;
 use table::Counts;
 ghost use mathlib.Core.Path.{_≡_};
 ghost use mathlib.Core.List.{[], _∷_};
@@ -14,6 +15,7 @@ ghost use Rattle.model.specs.States.{readTokens};
 ghost use Rattle.model.specs.Printing.{decimal, signed, shown, endingWord, boxPart, spaced, outcomeLine, outputLine, outputLines, refusedLine};
 ghost use Rattle.places.specs.Standing.{netIn, Standing, stateOf};
 ghost use Rattle.printing.specs.Pages.{page, laid};
+ghost use Rattle.printing.specs.Lines.{linesIn};
 
 // One byte.
 fn put_byte(buf: &mut [u8], at: usize, byte: u8) -> usize
@@ -184,4 +186,19 @@ pub fn output_lines(
         k += 1;
     }
     end
+}
+
+// The lines of the outputs from the files and the lent state alone; nothing for bytes that hold no state.
+pub fn state_lines(net: &[u8], tokens: &[u8], state: &[u8], buf: &mut [u8], at: usize) -> usize
+    ensures { λ r. ⌜ page r (now (buf .exit)) ≡ laid (linesIn (now (net .entry)) (now (tokens .entry)) (now (state .entry))) (page at (now (buf .entry))) ⌝ }
+{
+    let mut table = [0u16; 656];
+    let mut starts = [0u16; 112];
+    let mut fields = [0u16; 8];
+    match opening::open_state(net, tokens, &mut table, &mut starts, &mut fields, state) {
+        Opened::Refused { refusal: _ } => at,
+        Opened::Good { counts, size: _ } => {
+            output_lines(net, &table, counts, &starts, tokens, state, buf, at)
+        }
+    }
 }
