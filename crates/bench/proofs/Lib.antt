@@ -2,4 +2,6 @@
 pub mod Loads
 pub mod Writes
 pub mod Marks
+pub mod Cycles
 pub mod Tight
+pub mod Demands

@@ -20,9 +20,9 @@ use Rattle.model.specs.declared.RunAnswer.{RunAnswer}
 use Rattle.model.specs.declared.RunAnswer.the-variants as run
 use Rattle.model.specs.declared.WriteAnswer.{WriteAnswer}
 use Rattle.model.specs.declared.WriteAnswer.the-variants as write
-use Rattle.model.specs.Calls.{Answer, After, Marking, markCall, refusal, saidCheck, saidLoad, saidMark, saidCycle, saidEnding, saidRun, saidWrite, checkCall, bodyCall, loadCall, writeCall}
+use Rattle.model.specs.Calls.{Answer, After, Marking, markCall, refusal, saidCheck, saidLoad, saidMark, saidCycle, saidEnding, saidRun, saidWrite, checkCall, bodyCall, loadCall, cycleCall, runCall, writeCall}
 use Rattle.octets.specs.Part.{PartOf}
-use Rattle.bench.specs.Afters.{after, markedAs, Plain}
+use Rattle.bench.specs.Afters.{after, markedAs, begun, begins}
 
 -- ── what is said determines the answer ───────────────────────────────────────────────────────
 
@@ -73,7 +73,6 @@ write-one (write.Written a) (write.Refused y) e = cc
 write-one (write.Refused x) (write.Written b) e = cc
 write-one (write.Refused x) (write.Refused y) e = ap write.Refused (refusal-one x y e)
 
--- of a run, 9 is a fault in it, any other number a refusal before it
 ending-one : (e f : Ending) (c d : ℕ) → saidEnding e c ≡ saidEnding f d → run.Ended e c ≡ run.Ended f d
 unfolding saidEnding
 ending-one ending.Idle ending.Idle c d e = cc
@@ -86,18 +85,13 @@ ending-one (ending.Fault n a) ending.Idle c d e = cc
 ending-one (ending.Fault n a) ending.Spent c d e = cc
 ending-one (ending.Fault n a) (ending.Fault m b) c d e = cc
 
-not-before : (e : Ending) (c : ℕ) (y : Refusal) → Plain (run.Ended e c) → Plain (run.Refused y) → saidEnding e c ≡ refusal y → run.Ended e c ≡ run.Refused y
-unfolding saidEnding refusal Plain
-not-before ending.Idle c y h g e = cc
-not-before ending.Spent c y h g e = cc
-not-before (ending.Fault n b) c y h g e = let z : y .number ≡ 9 = cc in absurd (g z)
-
-pub run-one : (r q : RunAnswer) → Plain r → Plain q → saidRun r ≡ saidRun q → r ≡ q
-unfolding saidRun
-run-one (run.Ended e c) (run.Ended f d) h g i = ending-one e f c d i
-run-one (run.Ended e c) (run.Refused y) h g i = not-before e c y h g i
-run-one (run.Refused x) (run.Ended f d) h g i = sym (not-before f d x g h (sym i))
-run-one (run.Refused x) (run.Refused y) h g i = ap run.Refused (refusal-one x y i)
+-- of a run: whether it began tells a fault from a refusal before it
+pub run-one : (r q : RunAnswer) → begun r ≡ begun q → saidRun r ≡ saidRun q → r ≡ q
+unfolding saidRun begun
+run-one (run.Ended e c) (run.Ended f d) h i = ending-one e f c d i
+run-one (run.Ended e c) (run.Refused y) h i = cc
+run-one (run.Refused x) (run.Ended f d) h i = cc
+run-one (run.Refused x) (run.Refused y) h i = ap run.Refused (refusal-one x y i)
 
 -- ── the calls ────────────────────────────────────────────────────────────────────────────────
 
@@ -130,3 +124,12 @@ mark-tight s ts b r q e f =
     let a : r .answer ≡ q .answer = mark-one (r .answer) (q .answer) (ap (λ (m : Marking). m .answer) g) in
     let k : r .rules ≡ q .rules = ap (λ (m : Marking). m .rules) g in
     ap₂ (λ (x : MarkAnswer) (y : List ℕ). record { answer = x; rules = y }) a k
+
+pub cycle-tight : (s ts st o u v : List ℕ) (r q : CycleAnswer) → after (saidCycle r) u ≡ cycleCall s ts st o → after (saidCycle q) v ≡ cycleCall s ts st o → (r ≡ q) × (u ≡ v)
+cycle-tight s ts st o u v r q e f = (cycle-one r q (answers-same _ _ u v (e ∙ sym f)), bytes-same (saidCycle r) (saidCycle q) u v (e ∙ sym f))
+
+pub run-tight : (s ts st u v : List ℕ) (budget : ℕ) (r q : RunAnswer) → (after (saidRun r) u ≡ runCall s ts st budget) × (begun r ≡ begins s ts st budget)
+    → (after (saidRun q) v ≡ runCall s ts st budget) × (begun q ≡ begins s ts st budget) → (r ≡ q) × (u ≡ v)
+run-tight s ts st u v budget r q e f =
+    let g = e .0 ∙ sym (f .0) in
+    (run-one r q (e .1 ∙ sym (f .1)) (answers-same _ _ u v g), bytes-same (saidRun r) (saidRun q) u v g)

@@ -1,19 +1,21 @@
 // The calls of the bench on lent memory: refusals in the order of document 01, then the work. None of them asks for anything.
 use model::CheckAnswer;
+use model::CycleAnswer;
 use model::LoadAnswer;
 use model::MarkAnswer;
 use model::Marked;
 use model::Refusal;
+use model::RunAnswer;
 use model::WriteAnswer;
 use opening::Opened;
 use table::Counts;
 ghost use mathlib.Core.Path.{_≡_};
 ghost use Rattle.model.specs.Cycles.{finding};
-ghost use Rattle.model.specs.Calls.{saidLoad, saidWrite, marksOf, loadCall, markCall, writeCall};
+ghost use Rattle.model.specs.Calls.{saidLoad, saidCycle, saidRun, saidWrite, marksOf, loadCall, markCall, cycleCall, runCall, writeCall};
 ghost use Rattle.places.specs.Standing.{bareNet, netIn, Standing, stateOf};
 ghost use Rattle.token_file.specs.Fields.{Fields};
 ghost use Rattle.opening.specs.Opening.{Open};
-ghost use Rattle.bench.specs.Afters.{after, loadIn, markedAs, writeIn};
+ghost use Rattle.bench.specs.Afters.{after, loadIn, markedAs, begun, begins, writeIn};
 
 // A load of an accepted network: 6 for a buffer that is too short.
 fn load_in(
@@ -91,6 +93,44 @@ pub fn mark(net: &[u8], tokens: &[u8], state: &[u8]) -> Marked
         },
         Opened::Good { counts, size: _ } => {
             mark_in(net, &table, counts, &starts, tokens, &fields, state)
+        }
+    }
+}
+
+// A single cycle in an order: the checks of the files and the state, then a fault, then the order, then the firings.
+pub fn cycle(net: &[u8], tokens: &[u8], state: &mut [u8], order: &[u8]) -> CycleAnswer
+    ensures { λ r. ⌜ after (saidCycle r) (now (state .exit)) ≡ cycleCall (now (net .entry)) (now (tokens .entry)) (now (state .entry)) (now (order .entry)) ⌝ }
+{
+    let mut table = [0u16; 656];
+    let mut starts = [0u16; 112];
+    let mut fields = [0u16; 8];
+    match opening::open_state(net, tokens, &mut table, &mut starts, &mut fields, state) {
+        Opened::Refused { refusal } => CycleAnswer::Refused { refusal },
+        Opened::Good { counts, size: _ } => {
+            cycling::cycle_in(net, &table, counts, &starts, tokens, &fields, order, state)
+        }
+    }
+}
+
+// A run of at most as many cycles as the budget says; a budget above 65,535 is refused with 2.
+pub fn run(net: &[u8], tokens: &[u8], state: &mut [u8], budget: u32) -> RunAnswer
+    ensures { λ r. ⌜ (after (saidRun r) (now (state .exit)) ≡ runCall (now (net .entry)) (now (tokens .entry)) (now (state .entry)) budget) × (begun r ≡ begins (now (net .entry)) (now (tokens .entry)) (now (state .entry)) budget) ⌝ }
+{
+    if budget > 65535 {
+        return RunAnswer::Refused {
+            refusal: Refusal {
+                number: 2,
+                place: 0,
+            },
+        };
+    }
+    let mut table = [0u16; 656];
+    let mut starts = [0u16; 112];
+    let mut fields = [0u16; 8];
+    match opening::open_state(net, tokens, &mut table, &mut starts, &mut fields, state) {
+        Opened::Refused { refusal } => RunAnswer::Refused { refusal },
+        Opened::Good { counts, size: _ } => {
+            cycling::run_in(net, &table, counts, &starts, tokens, &fields, budget, state)
         }
     }
 }

@@ -220,7 +220,7 @@ module _ (n : Net) (s : State) where
   map-up f j (suc k) zero l = ap f (omega arith)
   map-up f j (suc k) (suc i) l = map-up f (suc j) k i (omega arith) ∙ ap f (omega arith)
 
-  rules-at : (i : ℕ) → i < 32 → getD (ruleNumbers n s) i 0 ≡ boxRule (proc n i) (m i)
+  pub rules-at : (i : ℕ) → i < 32 → getD (ruleNumbers n s) i 0 ≡ boxRule (proc n i) (m i)
   unfolding ruleNumbers
   rules-at i l = map-up (λ k. boxRule (proc n k) (m k)) 0 32 i l ∙ ap (λ (k : ℕ). boxRule (proc n k) (m k)) (zero-add i)
 

@@ -15,7 +15,7 @@ use Rattle.model.specs.NetworkFile.{hit, count}
 use Rattle.model.specs.Cycles.{Ended, bits, has, isOrder, markedOf, markedSet, Deed, mark, Finding, broken, still, moving, finding, run, halt, proceed, stop, later}
 use Rattle.model.specs.Orders.{Order, Reached, cycled, deeds, Demand3}
 use Rattle.model.proofs.Tests.{and₂, same-or}
-use Rattle.model.proofs.Order.{remove, hit-same, hit-other, count-remove, remove-here, remove-past}
+use Rattle.model.proofs.Order.{remove, hit-same, hit-other, sum-remove, count-remove}
 use Rattle.model.proofs.Sound.{marked-once, orders-alike}
 use Rattle.model.proofs.Whole.{tokens-accepted}
 
@@ -49,11 +49,7 @@ bit (suc k) ks once =
     (bit k (down ks) (λ j. omega (arith, count-down ks j, once (suc j))) ∙ count-down ks k)))
 
 bits-remove : (k : ℕ) (ks : List ℕ) → 1 ≤ count k ks → bits ks ≡ 2 ^ k + bits (remove k ks)
-unfolding count bits
-bits-remove k [] h = absurd (omega arith)
-bits-remove k (j ∷ js) h =
-    same-or j k (λ e. rw (remove-here j k js e) (ap (λ (x : ℕ). 2 ^ x + bits js) e))
-    (λ f. rw (remove-past j k js f) (unfold bits in omega (arith, bits-remove k js (omega (arith, h, hit-other j k f)))))
+bits-remove k ks h = unfold bits in sum-remove bits (λ j. 2 ^ j) (λ j js. refl) k ks h
 
 -- one name struck off: its bit is cleared, and what is left names nothing twice
 module _ (k : ℕ) (ms : List ℕ) (once : (j : ℕ) → count j ms ≤ 1) (c : count k ms ≡ 1) where

@@ -4,7 +4,7 @@
 use mathlib.Core.Path.{_≡_, refl, ap, _∙_, sym, ap₂}
 use mathlib.Core.Bool.{Bool, true, false, not, _&&_, _||_, cond}
 use mathlib.Core.Option.{Option, none, some}
-use mathlib.Core.List.{List, [], _∷_, _++_, map, zipWith, append-assoc}
+use mathlib.Core.List.{List, [], _∷_, _++_, map, zipWith, append-nil, append-assoc}
 use Prim.Native.Nat.{ℕ, zero, suc, _+_, _-_, _^_, _≤_, _<_, _*_, _/_, _%_}
 use native.Mathlib.Omega.{arith}
 use lib.Dec.{eqb, leb, ltb}
@@ -21,17 +21,16 @@ use Rattle.model.specs.declared.Outcome.the-variants.{Value, Fault}
 use Rattle.model.specs.Bytes.{signedOf, twoAt, twoBytes, fourAt, fourBytes, valueAt, valueBytes}
 use Rattle.model.specs.Values.{noType, isPlain, isDc, wellSized, carried, sameType, within, readBack, eqZ}
 use Rattle.model.specs.Expressions.{Exp, Env, Typed, typed, ill, typeOf, precise, expressionLimits, depthOf, valueOf}
-use Rattle.model.specs.Rules.{Rule, Pattern, ignore, any, only, Action, nothing, bare, send, Shape, Fit, fits, fails, also, fitIf, tagFits, matchedType, matchedTypes, scopeOf, hasType, actionFits, actionsFit, actionLimits, ruleFits, sizeOfAction}
+use Rattle.model.specs.Rules.{Pattern, ignore, any, only, Action, nothing, bare, send, Fit, fits, fails, also, fitIf, tagFits, matchedType, matchedTypes, scopeOf, hasType, actionFits, actionsFit, actionLimits, ruleFits, sizeOfAction}
 use Rattle.model.specs.Network.{Variable, Box, Proc, box, input, output, Net, Own, vars, taken, got, State, noToken, nobody, wire, capacity, proc, rule, queue, own, varsOf, takenOf, gotOf, insOf, outsOf, wireTypes, variableTypes, shapeOf, fresh, loaded, noWire}
-use Rattle.model.specs.NetworkFile.{count}
 use Rattle.model.specs.States.{tokenFits, tokensFit, tokenAt, readTokens, tokenBytes, tokensBytes, roomBytes, wireBytes, valuesBytes, ownBytes, cat, segments, bytesOf, wireSize, ownSize, sum, wiresSize, allZero, roomFits, wireFits, queueIn, valuesIn, valuesFit, ownFits, ownIn, split, allTrue, wireParts, ownParts, stateFits, stateIn}
-use Rattle.model.specs.Cycles.{empty, oldest, full, reads, matches, readyIn, readyIns, readyVars, readyOuts, readyRule, Deed, seen, look, moves, matchedValue, envOf, orZero, result, newVar, newVars, readsOf, sentOf, present, keptOf, deedOf, act, Mark, fires, markOf, mark, deed, fire, fireAll, ruleOf, cycleIn}
+use Rattle.model.specs.Cycles.{empty, oldest, full, reads, matches, readyIn, readyIns, readyVars, readyOuts, readyRule, Deed, seen, look, moves, matchedValue, envOf, orZero, result, newVar, newVars, readsOf, sentOf, present, keptOf, deedOf, act, Mark, fires, markOf, mark, deed, fire, ruleOf, cycleIn}
 use Rattle.model.specs.Orders.{joined, onWire, Sound, Reached, at-load, cycled, Back, RoundTrip}
 use Rattle.model.proofs.Tests.{and-left, and-right, both, and₂, and₃, cases, same-or}
 use Rattle.model.proofs.Wrapping.{read-within, within-mag, pow-30, value-bytes}
 use Rattle.model.proofs.Typing.{Of, Named, GoodEnv, value-of, same-type}
-use Rattle.model.proofs.Order.{OneEach, Due, due-first, due-other, due-next, deed-frame, queue-fire, hit-same}
-use Rattle.model.proofs.Sound.{nonempty, rule-chosen, flag-fires, sound-next, order-due, named-fires, load-sound, load-empty, reached-sound}
+use Rattle.model.proofs.Order.{OneEach, Ready, queue-fire}
+use Rattle.model.proofs.Sound.{nonempty, rule-chosen, flag-fires, sound-next, part, order-due, named-fires, load-sound, load-empty, reached-sound}
 use Rattle.model.proofs.Decoded.{Each, GoodType, GoodVariable, GoodRule, GoodProc, GoodNet, noVariable, actionTag, getD-map-lt}
 use Rattle.model.proofs.Whole.{tokens-accepted}
 
@@ -122,13 +121,6 @@ unfolding hasType
 hasType-fits own at t (typed u) e = ap typed (same-type u t (fitIf-fits (sameType u t) own e))
 hasType-fits own at t (ill k) e = let z : _≡_ {A = ℕ} 0 1 = cc in absurd (omega arith)
 
--- the actions of a rule that fits, each list from its own offset
-rule-fit : (sh : Shape) (r : Rule) → ruleFits sh r ≡ fits
-    → (i : ℕ) × (actionsFit (scopeOf sh r) i (sh .outs) (r .outs) ≡ fits) × (j : ℕ) × (actionsFit (scopeOf sh r) j (sh .vars) (r .sets) ≡ fits)
-rule-fit sh r e = unfold ruleFits in
-    let d = also-fits _ _ ((also-fits _ _ ((also-fits _ _ ((also-fits _ _ e) .1)) .1)) .1) in
-    (_, d .0, _, d .1)
-
 limits-split : (a : Action) (acts : List Action) → actionLimits (a ∷ acts) ≡ true → (actionLimits (a ∷ []) ≡ true) × (actionLimits acts ≡ true)
 unfolding actionLimits
 limits-split nothing acts l = (refl, l)
@@ -200,29 +192,29 @@ module _ (n : Net) (gn : GoodNet n) (s : State) (gs : GoodState n s) where
       → isPlain (getD (matchedTypes (wireTypes (n .wires) ws) ps) i noType) ≡ true
       → Named (getD (matchedTypes (wireTypes (n .wires) ws) ps) i noType) (getD (map matchedValue (look s ws (map reads ps))) i (pos 0))
   unfolding matchedTypes wireTypes look readyIns
-  ins-matched [] [] a r i e = no-type e
+  ins-matched ws [] a r i e = no-type e
   ins-matched [] (p ∷ ps) a r i e = no-type e
-  ins-matched (w ∷ ws) [] a r i e = no-type e
   ins-matched (w ∷ ws) (p ∷ ps) a r zero e = unfold wire in first-matched w p (a 0 (omega arith)) (and-left (readyIn p (queue s w)) (readyIns s ws ps) r) e
   ins-matched (w ∷ ws) (p ∷ ps) a r (suc i) e = ins-matched ws ps (λ k l. a (suc k) (omega (arith, l))) (and-right (readyIn p (queue s w)) (readyIns s ws ps) r) i e
 
   -- ── the results of a rule ──
 
   module _ (en : Env) (ge : GoodEnv en) where
-    -- an expression of type t works out to a value of it
-    sent-within : (t : Ty) (e : Exp) → 1 ≤ t .p → (expressionLimits e && true) ≡ true → typeOf (en .scope) e ≡ typed t → within t (orZero (valueOf en e)) ≡ true
-    unfolding expressionLimits
-    sent-within t e h l q =
-        orZero-within t (valueOf en e) h ((value-of en ge e (and-right (leb (depthOf e) 16) (precise e) (and-left (leb (depthOf e) 16 && precise e) true l)) t q) .1)
+    -- what an action sends is of the type that its wire carries, and the tag fits
+    sent : (at : ℕ) (t : Ty) (tag : ℕ) (e : Exp) → 1 ≤ t .p → actionFits (en .scope) at t (send tag e) ≡ fits → actionLimits (send tag e ∷ []) ≡ true
+        → (within (carried t) (orZero (valueOf en e)) ≡ true) × (tagFits t tag ≡ true)
+    unfolding actionFits actionLimits expressionLimits
+    sent at t tag e h f l =
+        let p = also-fits (hasType at (at + 1) (carried t) (typeOf (en .scope) e)) (fitIf (tagFits t tag) at) f in
+        let l′ = and-right (leb (depthOf e) 16) (precise e) (and-left (leb (depthOf e) 16 && precise e) true l) in
+        let x = value-of en ge e l′ (carried t) (hasType-fits at (at + 1) (carried t) (typeOf (en .scope) e) (p .0)) in
+        (orZero-within (carried t) (valueOf en e) (omega (arith, carried-p t)) (x .1), fitIf-fits (tagFits t tag) at (p .1))
 
     result-fits : (at : ℕ) (t : Ty) (a : Action) → 1 ≤ t .p → actionFits (en .scope) at t a ≡ fits → actionLimits (a ∷ []) ≡ true → actionTag a ≡ true → Sent t (result en a)
-    unfolding actionFits actionLimits actionTag result
+    unfolding actionTag result
     result-fits at t nothing h f l g = tt
-    result-fits at t (bare tag) h f l g = mark-token t tag (fitIf-fits (tagFits t tag) at f) g
-    result-fits at t (send tag e) h f l g =
-        let p = also-fits (hasType at (at + 1) (carried t) (typeOf (en .scope) e)) (fitIf (tagFits t tag) at) f in
-        let w = sent-within (carried t) e (omega (arith, carried-p t)) l (hasType-fits at (at + 1) (carried t) (typeOf (en .scope) e) (p .0)) in
-        value-token t tag (orZero (valueOf en e)) (fitIf-fits (tagFits t tag) at (p .1)) g w
+    result-fits at t (bare tag) h f l g = mark-token t tag (fitIf-fits (tagFits t tag) at (unfold actionFits in f)) g
+    result-fits at t (send tag e) h f l g = let x = sent at t tag e h f l in value-token t tag (orZero (valueOf en e)) (x .1) g (x .0)
 
     results-fit : (at : ℕ) (ws : List ℕ) (acts : List Action) → Each (λ w. w < length (n .wires)) 0 ws → actionsFit (en .scope) at (wireTypes (n .wires) ws) acts ≡ fits
         → actionLimits acts ≡ true → Each (λ a. actionTag a ≡ true) nothing acts → (w : ℕ) → tokensFit ((wire n w) .ty) (onWire w (moves ws (map (result en) acts))) ≡ true
@@ -243,12 +235,10 @@ module _ (n : Net) (gn : GoodNet n) (s : State) (gs : GoodState n s) where
 
     var-within : (at : ℕ) (v : Variable) (z : ℤ) (a : Action) → GoodVariable v → within (v .ty) z ≡ true → actionFits (en .scope) at (v .ty) a ≡ fits → actionLimits (a ∷ []) ≡ true
         → within (v .ty) (newVar en z a) ≡ true
-    unfolding actionFits actionLimits newVar
+    unfolding newVar
     var-within at v z nothing g w f l = w
     var-within at v z (bare tag) g w f l = w
-    var-within at v z (send tag e) g w f l =
-        let x = also-fits (hasType at (at + 1) (carried (v .ty)) (typeOf (en .scope) e)) (fitIf (tagFits (v .ty) tag) at) f in
-        sent-within (v .ty) e (g .ty .low) l (hasType-fits at (at + 1) (carried (v .ty)) (typeOf (en .scope) e) (x .0) ∙ ap typed (plain-carried (v .ty) (g .plain)))
+    var-within at v z (send tag e) g w f l = rw (plain-carried (v .ty) (g .plain)) at ((sent at (v .ty) tag e (g .ty .low) f l) .0)
 
     vars-within : (at : ℕ) (vs : List Variable) (old : List ℤ) (acts : List Action) → Each GoodVariable noVariable vs → length old ≡ length vs
         → ((j : ℕ) → j < length vs → within ((getD vs j noVariable) .ty) (getD old j (pos 0)) ≡ true) → actionsFit (en .scope) at (variableTypes vs) acts ≡ fits
@@ -267,7 +257,7 @@ module _ (n : Net) (gn : GoodNet n) (s : State) (gs : GoodState n s) where
   -- ── the deed of a marked process ──
 
   deed-of : (p : Proc) (o : Own) (r : ℕ) → GoodProc n p → GoodOwn n p o → markOf n s p o ≡ fires r → GoodDeed n p (deedOf n p r (look s (insOf p) (readsOf p r)) o)
-  unfolding deedOf insOf outsOf readsOf sentOf keptOf envOf scopeOf shapeOf varsOf takenOf gotOf look seen present moves onWire tokensFit
+  unfolding deedOf insOf outsOf readsOf sentOf keptOf envOf ruleFits scopeOf shapeOf varsOf takenOf gotOf look seen present moves onWire tokensFit
   deed-of (box b) o r gp go e =
       let c = rule-chosen n s b o r e in
       let u = rule b r in
@@ -275,13 +265,13 @@ module _ (n : Net) (gn : GoodNet n) (s : State) (gs : GoodState n s) where
       let ready = (and₃ (readyIns s (b .ins) (u .ins)) (readyVars (varsOf o) (u .vars)) (readyOuts n s (b .outs) (u .outs)) (unfold readyRule in c .1)) .0 in
       let en = envOf n b u (look s (b .ins) (map reads (u .ins))) (varsOf o) in
       let ge : GoodEnv en = record { ins = ins-matched (b .ins) (u .ins) (gp .ins) ready; vars = vars-named (b .vars) (λ j. getD (varsOf o) j (pos 0)) (gp .vars) (go .each) } in
-      let f = rule-fit (shapeOf (n .wires) b) u (gr .fits) in
+      let f = also-fits _ _ ((also-fits _ _ ((also-fits _ _ ((also-fits _ _ (gr .fits)) .1)) .1)) .1) in
       record {
-        put = results-fit en ge (f .0) (b .outs) (u .outs) (gp .outs) (f .1) (gr .outs-limits) (gr .tags);
+        put = results-fit en ge _ (b .outs) (u .outs) (gp .outs) (f .0) (gr .outs-limits) (gr .tags);
         keeps = record {
           is = refl;
           number = new-length en ge (varsOf o) (u .sets) ∙ go .number;
-          each = vars-within en ge (f .2) (b .vars) (varsOf o) (u .sets) (gp .vars) (go .number) (go .each) (f .3) (gr .sets-limits);
+          each = vars-within en ge _ (b .vars) (varsOf o) (u .sets) (gp .vars) (go .number) (go .each) (f .1) (gr .sets-limits);
         };
       }
   deed-of (input w ts) o r gp go e =
@@ -314,26 +304,19 @@ module _ (n : Net) (m : ℕ → Mark) (one : OneEach n) where
       same-or j k (λ e. rw e (rw (getD-set-same (s .owns) k ((deed n m k s) .keeps) (vars []) (omega (arith, h, g .owns))) (x .keeps)))
       (λ f. rw (getD-set-other (s .owns) k j ((deed n m k s) .keeps) (vars []) f) (g .kept j i))
 
-  all-good : (ks : List ℕ) (s : State) (ds : List Deed) → Due n m one ks s → Sound n s ds → GoodState n s
-      → ((k : ℕ) → 1 ≤ count k ks → (k < length (n .procs)) × GoodDeed n (proc n k) (deed n m k s)) → GoodState n (fireAll n m ks s)
-  unfolding fireAll count
-  all-good [] s ds d q g x = g
-  all-good (k ∷ ks) s ds d q g x =
-      let r = due-first n m one k ks s d in
-      let here = x k (omega (arith, hit-same k k refl)) in
-      let q′ = sound-next n m one k s ds r q in
+  -- a firing whose deed is good leaves the state well laid out
+  good-next : (k : ℕ) (s : State) (es : List Deed) → Ready n m k s → (k < length (n .procs)) × GoodDeed n (proc n k) (deed n m k s) → Sound n (fire n m k s) es
+      → GoodState n s → GoodState n (fire n m k s)
+  good-next k s es r x q g =
       let a = deed n m k s in
-      all-good ks (fire n m k s) (ds ++ (a ∷ [])) (due-next n m one k ks s d) q′ (record {
-        queues = q′ .shape;
+      record {
+        queues = q .shape;
         owns = unfold fire act in length-set (s .owns) k (a .keeps) ∙ g .owns;
-        most = q′ .fits;
+        most = q .fits;
         fit = λ w i. rw (queue-fire n m one k s r w) (fit-append ((wire n w) .ty) (drop (length (onWire w (a .took))) (queue s w)) (onWire w (a .put))
-            (fit-drop ((wire n w) .ty) (length (onWire w (a .took))) (queue s w) (g .fit w i)) (here .1 .put w));
-        kept = λ j i. own-fire k j s g (here .0) (here .1) i;
-      }) (λ j h.
-      let o = due-other n m one k ks s d j h in
-      let there = x j (omega (arith, h)) in
-      (there .0, rw (deed-frame n m one j k s (o .0) (o .1) r) (there .1)))
+            (fit-drop ((wire n w) .ty) (length (onWire w (a .took))) (queue s w) (g .fit w i)) (x .1 .put w));
+        kept = λ j i. own-fire k j s g (x .0) (x .1) i;
+      }
 
 module _ (n : Net) (gn : GoodNet n) (one : OneEach n) where
   fresh-good : (p : Proc) → GoodProc n p → GoodOwn n p (fresh p)
@@ -359,8 +342,10 @@ module _ (n : Net) (gn : GoodNet n) (one : OneEach n) where
   reached-good (cycled {s = s} {ds = ds} ks x o) =
       let q = reached-sound n one x in
       let g = reached-good x in
-      all-good n (mark n s) one ks s ds (order-due n one s ks (q .shape) (q .fits) o) q g
-      (λ k h. (let f = named-fires n s ks o k h in (f .2, deed-good n gn s g (mark n s) k (f .0) (f .2) (f .1) (f .1))))
+      (part n (mark n s) one (λ k d. (k < length (n .procs)) × GoodDeed n (proc n k) d) (λ t es. Sound n t es × GoodState n t)
+      (λ k t es r y p. (let z = sound-next n (mark n s) one k t es r (p .0) in (z, good-next n (mark n s) one k t _ r y z (p .1))))
+      ks [] s ds (rw append-nil (order-due n one s ks (q .shape) (q .fits) o))
+      (λ k h. (let f = named-fires n s ks o k (rw append-nil at h) in (f .2, deed-good n gn s g (mark n s) k (f .0) (f .2) (f .1) (f .1)))) (q, g)) .0 .1
 
 -- ── values and tokens ────────────────────────────────────────────────────────────────────────
 
@@ -400,8 +385,7 @@ zeros zero = refl
 zeros (suc k) = zeros k
 
 pub length-room : (room : ℕ) (ts : List Token) → length ts ≤ room → length (roomBytes room ts) ≡ 5 * room
-unfolding roomBytes
-length-room room ts h = length-append (tokensBytes ts) (replicate ((room - length ts) * 5) 0) ∙ omega (arith, length-tokens ts, length-replicate {A = ℕ} ((room - length ts) * 5) 0)
+length-room room ts h = unfold roomBytes in length-append (tokensBytes ts) (replicate ((room - length ts) * 5) 0) ∙ omega (arith, length-tokens ts, length-replicate {A = ℕ} ((room - length ts) * 5) 0)
 
 -- its length, the tokens back, and that it fits
 room-laid : (t : Ty) → GoodType t → (room : ℕ) (q : List Token) → tokensFit t q ≡ true → length q ≤ room
@@ -420,7 +404,7 @@ length-values (z ∷ zs) = omega (arith, length-values zs)
 
 values-back : (vs : List Variable) (zs : List ℤ) → Each GoodVariable noVariable vs → length zs ≡ length vs
     → ((j : ℕ) → j < length vs → within ((getD vs j noVariable) .ty) (getD zs j (pos 0)) ≡ true) → (valuesIn vs (valuesBytes zs) ≡ zs) × (valuesFit vs (valuesBytes zs) ≡ true)
-unfolding valuesIn valuesFit valuesBytes
+unfolding valuesIn valuesFit valuesBytes valueBytes fourBytes
 values-back [] [] g l w = (refl, refl)
 values-back [] (z ∷ zs) g l w = absurd (omega arith)
 values-back (v ∷ vs) [] g l w = absurd (omega arith)
@@ -428,9 +412,8 @@ values-back (v ∷ vs) (z ∷ zs) g l w =
     let t = (g 0 (omega arith)) .ty in
     let h = w 0 (omega arith) in
     let ih = values-back vs zs (λ k m. g (suc k) (omega (arith, m))) (omega arith) (λ k m. w (suc k) (omega (arith, m))) in
-    let e : valueAt (valueBytes z ++ valuesBytes zs) 0 ≡ z = unfold valueAt valueBytes fourAt fourBytes in value-bytes z (within-small (v .ty) (t .low) (t .high) z h) in
-    let d : drop 4 (valueBytes z ++ valuesBytes zs) ≡ valuesBytes zs = unfold valueBytes fourBytes in refl in
-    rw (e, d, h) (ap (λ (l : List ℤ). z ∷ l) (ih .0), ih .1)
+    let e : valueAt (valueBytes z ++ valuesBytes zs) 0 ≡ z = unfold valueAt fourAt in value-bytes z (within-small (v .ty) (t .low) (t .high) z h) in
+    rw (e, h) (ap (λ (l : List ℤ). z ∷ l) (ih .0), ih .1)
 
 -- ── parts one after another ──────────────────────────────────────────────────────────────────
 

@@ -7,7 +7,7 @@ use mathlib.Core.Option.{Option, none, some}
 use mathlib.Core.List.{List, [], _∷_, _++_, append-nil, append-assoc}
 use Prim.Native.Nat.{ℕ, zero, suc, _+_, _≤_, _<_}
 use native.Mathlib.Omega.{arith}
-use native.Mathlib.Nat.{add-comm}
+use native.Mathlib.Nat.{add-comm, le-trans}
 use lib.Dec.{eqb, ltb}
 use lib.ListN.{length, getD, set, drop, length-set, length-append, length-drop, List·getD-eq-default, drop-of-length-le}
 use lib.Seq.{drop-drop, drop-append-le, getD-set-same, getD-set-other, lt-length-set, set-comm, ext-getD}
@@ -44,52 +44,50 @@ unfolding count
 count-append w [] ys = omega arith
 count-append w (x ∷ xs) ys = omega (arith, count-append w xs ys)
 
--- the ports of one process, and of two, are among all ports
+-- the ports of two processes are among all ports, and so are the tokens that they move there
 module _ (f : Proc → List ℕ) (w : ℕ) (none′ : count w (f nobody) ≡ 0) where
-  port-one : (ps : List Proc) (j : ℕ) → count w (f (getD ps j nobody)) ≤ count w (ports f ps)
-  unfolding ports
-  port-one [] j = omega arith
-  port-one (p ∷ ps) zero = omega (arith, count-append w (f p) (ports f ps))
-  port-one (p ∷ ps) (suc j) = omega (arith, count-append w (f p) (ports f ps), port-one ps j)
-
   port-two : (ps : List Proc) (j k : ℕ) → j ≢ k → count w (f (getD ps j nobody)) + count w (f (getD ps k nobody)) ≤ count w (ports f ps)
   unfolding ports
   port-two [] j k h = omega arith
   port-two (p ∷ ps) zero zero h = absurd (h refl)
-  port-two (p ∷ ps) zero (suc k) h = omega (arith, count-append w (f p) (ports f ps), port-one ps k)
-  port-two (p ∷ ps) (suc j) zero h = omega (arith, count-append w (f p) (ports f ps), port-one ps j)
+  port-two (p ∷ ps) zero (suc k) h = omega (arith, count-append w (f p) (ports f ps), port-two ps k (suc k) (λ e. omega (arith, e)))
+  port-two (p ∷ ps) (suc j) zero h = omega (arith, count-append w (f p) (ports f ps), port-two ps j (suc j) (λ e. omega (arith, e)))
   port-two (p ∷ ps) (suc j) (suc k) h = omega (arith, count-append w (f p) (ports f ps), port-two ps j k (λ e. h (ap suc e)))
+
+  moves-two : (ps : List Proc) (j k : ℕ) → j ≢ k → (xs ys : List (Option Token))
+      → length (onWire w (moves (f (getD ps j nobody)) xs)) + length (onWire w (moves (f (getD ps k nobody)) ys)) ≤ count w (ports f ps)
+  moves-two ps j k h xs ys = omega (arith, port-two ps j k h, moves-count (f (getD ps j nobody)) xs w, moves-count (f (getD ps k nobody)) ys w)
 
 -- ── one wire after a deed ────────────────────────────────────────────────────────────────────
 
-length-takeAll : (ms : List Move) (qs : List (List Token)) → length (takeAll ms qs) ≡ length qs
-unfolding takeAll
-length-takeAll [] qs = refl
-length-takeAll (m ∷ ms) qs = length-takeAll ms (set qs (m .wire) (drop 1 (getD qs (m .wire) []))) ∙ length-set qs (m .wire) _
+-- moves that each change the queue of their wire by f: one wire after them all
+module _ (all : List Move → List (List Token) → List (List Token)) (f : Token → List Token → List Token) (none′ : (qs : List (List Token)) → all [] qs ≡ qs)
+    (more : (m : Move) (ms : List Move) (qs : List (List Token)) → all (m ∷ ms) qs ≡ all ms (set qs (m .wire) (f (m .token) (getD qs (m .wire) [])))) where
+  length-all : (ms : List Move) (qs : List (List Token)) → length (all ms qs) ≡ length qs
+  length-all [] qs = ap length (none′ qs)
+  length-all (m ∷ ms) qs = ap length (more m ms qs) ∙ length-all ms _ ∙ length-set qs (m .wire) _
 
-length-putAll : (ms : List Move) (qs : List (List Token)) → length (putAll ms qs) ≡ length qs
-unfolding putAll
-length-putAll [] qs = refl
-length-putAll (m ∷ ms) qs = length-putAll ms (set qs (m .wire) (getD qs (m .wire) [] ++ (m .token ∷ []))) ∙ length-set qs (m .wire) _
+  all-at : (g : List Token → List Token → List Token) → ((q : List Token) → g [] q ≡ q) → ((t : Token) (ts q : List Token) → g ts (f t q) ≡ g (t ∷ ts) q)
+      → (ms : List Move) (qs : List (List Token)) (w : ℕ) → w < length qs → getD (all ms qs) w [] ≡ g (onWire w ms) (getD qs w [])
+  unfolding onWire joined
+  all-at g z c [] qs w h = rw (none′ qs) (sym (z (getD qs w [])))
+  all-at g z c (m ∷ ms) qs w h =
+      let x = f (m .token) (getD qs (m .wire) []) in
+      rw (more m ms qs) (all-at g z c ms (set qs (m .wire) x) w (lt-length-set qs (m .wire) x h)
+      ∙ same-or (m .wire) w (λ e. rw (e, eq-eqb w w refl, getD-set-same qs w (f (m .token) (getD qs w [])) [] h) (c (m .token) (onWire w ms) (getD qs w [])))
+      (λ ne. rw (ne-eqb (m .wire) w ne, getD-set-other qs (m .wire) w x [] (λ p. ne (sym p)))))
+
+length-takeAll : (ms : List Move) (qs : List (List Token)) → length (takeAll ms qs) ≡ length qs
+length-takeAll = unfold takeAll in length-all takeAll (λ t q. drop 1 q) (λ qs. refl) (λ m ms qs. refl)
 
 takeAll-at : (ms : List Move) (qs : List (List Token)) (w : ℕ) → w < length qs → getD (takeAll ms qs) w [] ≡ drop (length (onWire w ms)) (getD qs w [])
-unfolding takeAll onWire joined
-takeAll-at [] qs w h = refl
-takeAll-at (m ∷ ms) qs w h =
-    let x = drop 1 (getD qs (m .wire) []) in
-    let e : 1 + length (onWire w ms) ≡ suc (length (onWire w ms)) = omega arith in
-    takeAll-at ms (set qs (m .wire) x) w (lt-length-set qs (m .wire) x h)
-    ∙ same-or (m .wire) w (λ q. rw (q, eq-eqb w w refl, getD-set-same qs w (drop 1 (getD qs w [])) [] h) (rw e at (drop-drop (length (onWire w ms)) 1 (getD qs w []))))
-    (λ f. rw (ne-eqb (m .wire) w f, getD-set-other qs (m .wire) w x [] (λ p. f (sym p))))
+takeAll-at = unfold takeAll in
+    all-at takeAll (λ t q. drop 1 q) (λ qs. refl) (λ m ms qs. refl) (λ ts q. drop (length ts) q) (λ q. refl)
+    (λ t ts q. (let e : 1 + length ts ≡ suc (length ts) = omega arith in rw e at (drop-drop (length ts) 1 q)))
 
 pub putAll-at : (ms : List Move) (qs : List (List Token)) (w : ℕ) → w < length qs → getD (putAll ms qs) w [] ≡ getD qs w [] ++ onWire w ms
-unfolding putAll onWire joined
-putAll-at [] qs w h = sym (append-nil (getD qs w []))
-putAll-at (m ∷ ms) qs w h =
-    let x = getD qs (m .wire) [] ++ (m .token ∷ []) in
-    putAll-at ms (set qs (m .wire) x) w (lt-length-set qs (m .wire) x h)
-    ∙ same-or (m .wire) w (λ e. rw (e, eq-eqb w w refl, getD-set-same qs w (getD qs w [] ++ (m .token ∷ [])) [] h) (append-assoc (getD qs w []) (m .token ∷ []) (onWire w ms)))
-    (λ f. rw (ne-eqb (m .wire) w f, getD-set-other qs (m .wire) w x [] (λ p. f (sym p))))
+putAll-at = unfold putAll in
+    all-at putAll (λ t q. q ++ (t ∷ [])) (λ qs. refl) (λ m ms qs. refl) (λ ts q. q ++ ts) append-nil (λ t ts q. append-assoc q (t ∷ []) ts)
 
 pub queue-act : (k : ℕ) (d : Deed) (s : State) (w : ℕ) → w < length (s .queues)
     → queue (act k d s) w ≡ drop (length (onWire w (d .took))) (queue s w) ++ onWire w (d .put)
@@ -98,7 +96,7 @@ queue-act k d s w h = unfold queue act in
     ∙ ap (λ (q : List Token). q ++ onWire w (d .put)) (takeAll-at (d .took) (s .queues) w h)
 
 pub length-act : (k : ℕ) (d : Deed) (s : State) → length ((act k d s) .queues) ≡ length (s .queues)
-length-act k d s = unfold act in length-putAll (d .put) (takeAll (d .took) (s .queues)) ∙ length-takeAll (d .took) (s .queues)
+length-act k d s = unfold act putAll in length-all putAll (λ t q. q ++ (t ∷ [])) (λ qs. refl) (λ m ms qs. refl) (d .put) (takeAll (d .took) (s .queues)) ∙ length-takeAll (d .took) (s .queues)
 
 queue-past : (s : State) (w : ℕ) → length (s .queues) ≤ w → queue s w ≡ []
 queue-past s w h = unfold queue in List·getD-eq-default (s .queues) [] h
@@ -135,25 +133,6 @@ wire-commute : (a b : ℕ) (q x y : List Token) → a + b ≤ length q → lengt
 wire-commute a b q x y h g =
     rw (drop-both a b q x h, drop-both b a q y (omega arith), add-comm a b, append-assoc (drop (b + a) q) x y, append-assoc (drop (b + a) q) y x, swap-short x y g)
 
-module _ (j k : ℕ) (d e : Deed) (s : State) (ne : j ≢ k)
-    (hs : (w : ℕ) → length (onWire w (d .took)) + length (onWire w (e .took)) ≤ length (queue s w))
-    (ps : (w : ℕ) → length (onWire w (d .put)) + length (onWire w (e .put)) ≤ 1) where
-  commute-at : (w : ℕ) → w < length (s .queues) → queue (act j d (act k e s)) w ≡ queue (act k e (act j d s)) w
-  commute-at w h =
-      let hk : w < length ((act k e s) .queues) = rw length-act h in
-      let hj : w < length ((act j d s) .queues) = rw length-act h in
-      rw (queue-act j d (act k e s) w hk, queue-act k e (act j d s) w hj, queue-act k e s w h, queue-act j d s w h)
-      (wire-commute (length (onWire w (e .took))) (length (onWire w (d .took))) (queue s w) (onWire w (e .put)) (onWire w (d .put)) (omega (arith, hs w)) (omega (arith, ps w)))
-
-  commute-queues : (act j d (act k e s)) .queues ≡ (act k e (act j d s)) .queues
-  commute-queues = unfold queue in ext-getD [] _ _ (simp length-act) (λ w h. commute-at w (simp length-act at h))
-
-  commute-owns : (act j d (act k e s)) .owns ≡ (act k e (act j d s)) .owns
-  commute-owns = unfold act in set-comm (s .owns) k j (e .keeps) (d .keeps) (λ p. ne (sym p))
-
-  act-commute : act j d (act k e s) ≡ act k e (act j d s)
-  act-commute = λ i. record { queues = commute-queues i; owns = commute-owns i }
-
 -- ── two firings of one cycle ─────────────────────────────────────────────────────────────────
 
 -- no wire has two reading ports or two writing ports
@@ -171,24 +150,14 @@ no-capacity : (n : Net) (w : ℕ) → length (n .wires) ≤ w → capacity n w �
 no-capacity n w h = unfold capacity wire noWire in ap (λ (x : Wire). x .capacity) (List·getD-eq-default (n .wires) noWire h)
 
 module _ (n : Net) (m : ℕ → Mark) (one : OneEach n) where
-  -- what a firing takes and puts on a wire is not more than its ports there
-  took-count : (k : ℕ) (s : State) (w : ℕ) → length (onWire w ((deed n m k s) .took)) ≤ count w (insOf (getD (n .procs) k nobody))
-  took-count k s w = unfold deed deedOf proc in moves-count (insOf (proc n k)) _ w
+  -- two firings take one token at most from a wire, and put one at most on it; so does one firing
+  moved-two : (j k : ℕ) (s : State) (w : ℕ) → j ≢ k → (length (onWire w ((deed n m j s) .took)) + length (onWire w ((deed n m k s) .took)) ≤ 1)
+      × (length (onWire w ((deed n m j s) .put)) + length (onWire w ((deed n m k s) .put)) ≤ 1)
+  moved-two j k s w ne = unfold deed deedOf proc insOf outsOf nobody count in
+      (le-trans (moves-two insOf w refl (n .procs) j k ne _ _) (one .readers w), le-trans (moves-two outsOf w refl (n .procs) j k ne _ _) (one .writers w))
 
-  put-count : (k : ℕ) (s : State) (w : ℕ) → length (onWire w ((deed n m k s) .put)) ≤ count w (outsOf (getD (n .procs) k nobody))
-  put-count k s w = unfold deed deedOf proc in moves-count (outsOf (proc n k)) _ w
-
-  pub took-one : (k : ℕ) (s : State) (w : ℕ) → length (onWire w ((deed n m k s) .took)) ≤ 1
-  took-one k s w = omega (arith, one .readers w, port-one insOf w (unfold insOf nobody count in refl) (n .procs) k, took-count k s w)
-
-  pub put-one : (k : ℕ) (s : State) (w : ℕ) → length (onWire w ((deed n m k s) .put)) ≤ 1
-  put-one k s w = omega (arith, one .writers w, port-one outsOf w (unfold outsOf nobody count in refl) (n .procs) k, put-count k s w)
-
-  took-two : (j k : ℕ) (s : State) (w : ℕ) → j ≢ k → length (onWire w ((deed n m j s) .took)) + length (onWire w ((deed n m k s) .took)) ≤ 1
-  took-two j k s w ne = omega (arith, one .readers w, port-two insOf w (unfold insOf nobody count in refl) (n .procs) j k ne, took-count j s w, took-count k s w)
-
-  put-two : (j k : ℕ) (s : State) (w : ℕ) → j ≢ k → length (onWire w ((deed n m j s) .put)) + length (onWire w ((deed n m k s) .put)) ≤ 1
-  put-two j k s w ne = omega (arith, one .writers w, port-two outsOf w (unfold outsOf nobody count in refl) (n .procs) j k ne, put-count j s w, put-count k s w)
+  pub moved-one : (k : ℕ) (s : State) (w : ℕ) → (length (onWire w ((deed n m k s) .took)) ≤ 1) × (length (onWire w ((deed n m k s) .put)) ≤ 1)
+  moved-one k s w = let h = moved-two k (suc k) s w (λ e. omega (arith, e)) in (omega (arith, h .0), omega (arith, h .1))
 
   -- a wire's queue after a firing, declared or not
   pub queue-fire : (k : ℕ) (s : State) → Ready n m k s → (w : ℕ)
@@ -210,7 +179,7 @@ module _ (n : Net) (m : ℕ → Mark) (one : OneEach n) where
   oldest-frame : (j k : ℕ) (s : State) → j ≢ k → Ready n m j s → Ready n m k s → (w : ℕ) → 1 ≤ length (onWire w ((deed n m j s) .took))
       → oldest (queue (fire n m k s) w) ≡ oldest (queue s w)
   oldest-frame j k s ne r q w h =
-      let z : length (onWire w ((deed n m k s) .took)) ≡ 0 = omega (arith, took-two j k s w ne) in
+      let z : length (onWire w ((deed n m k s) .took)) ≡ 0 = omega (arith, (moved-two j k s w ne) .0) in
       ap oldest (queue-fire k s q w) ∙ rw z (oldest-append (queue s w) (onWire w ((deed n m k s) .put)) (omega (arith, r .has w)))
 
   pub deed-frame : (j k : ℕ) (s : State) → j ≢ k → Ready n m j s → Ready n m k s → deed n m j (fire n m k s) ≡ deed n m j s
@@ -222,15 +191,30 @@ module _ (n : Net) (m : ℕ → Mark) (one : OneEach n) where
   ready-frame : (j k : ℕ) (s : State) → j ≢ k → Ready n m j s → Ready n m k s → Ready n m j (fire n m k s)
   ready-frame j k s ne r q = record {
     shape = unfold fire in length-act k (deed n m k s) s ∙ q .shape;
-    has = λ w. rw (deed-frame j k s ne r q) (omega (arith, length-fire k s q w, r .has w, q .has w, took-two j k s w ne));
-    room = λ w. rw (deed-frame j k s ne r q) (omega (arith, length-fire k s q w, r .room w, q .room w, put-two j k s w ne));
+    has = λ w. rw (deed-frame j k s ne r q) (omega (arith, length-fire k s q w, r .has w, q .has w, (moved-two j k s w ne) .0));
+    room = λ w. rw (deed-frame j k s ne r q) (omega (arith, length-fire k s q w, r .room w, q .room w, (moved-two j k s w ne) .1));
   }
 
-  fire-commute : (j k : ℕ) (s : State) → j ≢ k → Ready n m j s → Ready n m k s → fire n m j (fire n m k s) ≡ fire n m k (fire n m j s)
-  fire-commute j k s ne r q = unfold fire in
-      ap (λ (d : Deed). act j d (fire n m k s)) (deed-frame j k s ne r q)
-      ∙ act-commute j k (deed n m j s) (deed n m k s) s ne (λ w. omega (arith, r .has w, q .has w, took-two j k s w ne)) (λ w. put-two j k s w ne)
-      ∙ sym (ap (λ (d : Deed). act k d (fire n m j s)) (deed-frame k j s (λ p. ne (sym p)) q r))
+  -- two firings in either order: each wire, and what each process keeps
+  module _ (j k : ℕ) (s : State) (ne : j ≢ k) (r : Ready n m j s) (q : Ready n m k s) where
+    commute-at : (w : ℕ) → queue (fire n m j (fire n m k s)) w ≡ queue (fire n m k (fire n m j s)) w
+    commute-at w =
+        rw (queue-fire j (fire n m k s) (ready-frame j k s ne r q) w, queue-fire k (fire n m j s) (ready-frame k j s (λ p. ne (sym p)) q r) w)
+        (rw (deed-frame j k s ne r q, deed-frame k j s (λ p. ne (sym p)) q r, queue-fire k s q w, queue-fire j s r w)
+        (wire-commute (length (onWire w ((deed n m k s) .took))) (length (onWire w ((deed n m j s) .took))) (queue s w) (onWire w ((deed n m k s) .put)) (onWire w ((deed n m j s) .put))
+        (omega (arith, r .has w, q .has w, (moved-two j k s w ne) .0)) (omega (arith, (moved-two j k s w ne) .1))))
+
+    commute-queues : (fire n m j (fire n m k s)) .queues ≡ (fire n m k (fire n m j s)) .queues
+    commute-queues = unfold fire queue in ext-getD [] _ _ (simp length-act) (λ w h. commute-at w)
+
+    commute-owns : (fire n m j (fire n m k s)) .owns ≡ (fire n m k (fire n m j s)) .owns
+    commute-owns = unfold fire act in
+        ap (λ (x : Deed). set ((fire n m k s) .owns) j (x .keeps)) (deed-frame j k s ne r q)
+        ∙ set-comm (s .owns) k j ((deed n m k s) .keeps) ((deed n m j s) .keeps) (λ p. ne (sym p))
+        ∙ sym (ap (λ (x : Deed). set ((fire n m j s) .owns) k (x .keeps)) (deed-frame k j s (λ p. ne (sym p)) q r))
+
+    fire-commute : fire n m j (fire n m k s) ≡ fire n m k (fire n m j s)
+    fire-commute = λ i. record { queues = commute-queues i; owns = commute-owns i }
 
 -- ── any two orders ───────────────────────────────────────────────────────────────────────────
 
@@ -245,12 +229,16 @@ remove-here j k js e = unfold remove in rw (eq-eqb j k e)
 pub remove-past : (j k : ℕ) (js : List ℕ) → j ≢ k → remove k (j ∷ js) ≡ j ∷ remove k js
 remove-past j k js f = unfold remove in rw (ne-eqb j k f)
 
-pub count-remove : (k : ℕ) (ks : List ℕ) → 1 ≤ count k ks → (i : ℕ) → count i ks ≡ hit (eqb k i) + count i (remove k ks)
+-- a sum over a list, with the first k taken out: how often i is named, for one
+pub sum-remove : (f : List ℕ → ℕ) (g : ℕ → ℕ) → ((j : ℕ) (js : List ℕ) → f (j ∷ js) ≡ g j + f js) → (k : ℕ) (ks : List ℕ) → 1 ≤ count k ks → f ks ≡ g k + f (remove k ks)
 unfolding count
-count-remove k [] h i = absurd (omega arith)
-count-remove k (j ∷ js) h i =
-    same-or j k (λ e. rw (remove-here j k js e) (ap (λ (x : ℕ). hit (eqb x i) + count i js) e))
-    (λ f. rw (remove-past j k js f) (omega (arith, count-remove k js (omega (arith, h, hit-other j k f)) i)))
+sum-remove f g more k [] h = absurd (omega arith)
+sum-remove f g more k (j ∷ js) h =
+    same-or j k (λ e. rw (remove-here j k js e) (more j js ∙ ap (λ (x : ℕ). g x + f js) e))
+    (λ ne. rw (remove-past j k js ne) (omega (arith, more j js, more j (remove k js), sum-remove f g more k js (omega (arith, h, hit-other j k ne)))))
+
+pub count-remove : (k : ℕ) (ks : List ℕ) → 1 ≤ count k ks → (i : ℕ) → count i ks ≡ hit (eqb k i) + count i (remove k ks)
+count-remove k ks h i = unfold count in sum-remove (count i) (λ j. hit (eqb j i)) (λ j js. refl) k ks h
 
 module _ (n : Net) (m : ℕ → Mark) (one : OneEach n) where
   -- all of the list are ready, and none stands in it twice

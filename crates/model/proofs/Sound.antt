@@ -8,22 +8,20 @@ use mathlib.Core.List.{List, [], _∷_, map, _++_, append-nil, append-assoc}
 use Prim.Native.Nat.{ℕ, zero, suc, _+_, _≤_, _<_}
 use native.Mathlib.Omega.{arith}
 use lib.Dec.{eqb, ltb}
-use lib.IntN.{ℤ}
-use lib.ListN.{length, drop, replicate, length-map, List·getD-map}
+use lib.ListN.{length, getD, drop, length-map, List·getD-map}
 use borrow.Author.Tests.{leb-false, eq-eqb, ne-eqb}
 use Rattle.model.specs.declared.Token.{Token}
 use Rattle.model.specs.declared.Outcome.{Outcome}
 use Rattle.model.specs.declared.Outcome.the-variants.{Value, Fault}
-use Rattle.model.specs.Values.{isTrue}
 use Rattle.model.specs.Expressions.{Env, valueOf}
-use Rattle.model.specs.Rules.{Rule, Pattern, Action, nothing, bare, send}
-use Rattle.model.specs.Network.{Proc, box, input, output, Box, Net, State, Own, queue, own, proc, capacity, rule, varsOf, takenOf, gotOf, insOf, outsOf, noWire, loaded, noTokens}
-use Rattle.model.specs.NetworkFile.{hit, count}
-use Rattle.model.specs.Cycles.{Mark, quiet, fires, faulty, upFrom, moves, look, seen, reads, writes, matches, oldest, empty, full, readyIn, readyIns, readyOuts, readyVars, readyRule, result, deed, deedOf, envOf, ruleOf, readsOf, sentOf, faultless, actionsOf, chosen, attempt, guarded, tryRule, orElse, first, tried, flag, markOf, mark, Deed, fire, fireAll, cycleIn, marked, keepIf, markedFrom, markedOf, processes}
+use Rattle.model.specs.Rules.{Rule, Pattern, ignore, any, only, Action, nothing, bare, send}
+use Rattle.model.specs.Network.{Proc, box, input, output, Box, Net, State, Own, queue, own, proc, capacity, rule, varsOf, takenOf, gotOf, insOf, outsOf, noToken, noWire, loaded, noTokens}
+use Rattle.model.specs.NetworkFile.{count}
+use Rattle.model.specs.Cycles.{Mark, quiet, fires, faulty, upFrom, moves, look, seen, reads, writes, oldest, empty, full, readyIn, readyIns, readyOuts, readyVars, readyRule, result, deed, deedOf, envOf, ruleOf, readsOf, sentOf, faultless, actionsOf, chosen, attempt, guarded, tryRule, orElse, first, tried, flag, markOf, mark, Deed, fire, fireAll, cycleIn, marked, keepIf, markedFrom, markedOf, processes}
 use Rattle.model.specs.Orders.{onWire, joined, deeds, putOn, takenFrom, Order, Reached, at-load, cycled, Sound, midway, Firing, AnyOrder}
 use Rattle.model.specs.States.{bytesOf}
 use Rattle.model.proofs.Tests.{and-left, and-right, and₂, and₃, not-true, same-or, cases}
-use Rattle.model.proofs.Order.{OneEach, Ready, hit-same, hit-other, length-joined, took-one, put-one, Due, due-first, due-other, due-next, any-order, deed-frame, queue-fire, length-fire, length-act, count-append}
+use Rattle.model.proofs.Order.{OneEach, Ready, hit-same, hit-other, length-joined, moved-one, Due, due-first, due-other, due-next, any-order, deed-frame, queue-fire, length-fire, length-act}
 
 -- ── the patterns and actions of a ready rule ─────────────────────────────────────────────────
 
@@ -35,24 +33,16 @@ nonempty (t ∷ q) e = omega arith
 not-full : (n : Net) (s : State) (w : ℕ) → full n s w ≡ false → length (queue s w) < capacity n w
 not-full n s w e = unfold full in leb-false (capacity n w) (length (queue s w)) e
 
--- a move on wire w comes from the first port or from a later one
-split : {A : Type 0} (v w : ℕ) (ws : List ℕ) (x : Option Token) (ts : List (Option Token)) → 1 ≤ length (onWire w (moves (v ∷ ws) (x ∷ ts)))
-    → (v ≡ w → x ≢ none → A) → (1 ≤ length (onWire w (moves ws ts)) → A) → A
-unfolding moves onWire
-split v w ws none ts h f g = g h
-split v w ws (some t) ts h f g =
-    same-or v w (λ e. f e (λ q. (let z : _≡_ {A = ℕ} 0 1 = cc in omega arith))) (λ ne. g (omega (arith, h, length-joined (eqb v w) t (onWire w (moves ws ts)), hit-other v w ne)))
-
 no-move : {A : Type 0} (w : ℕ) → 1 ≤ length (onWire w []) → A
 no-move w h = unfold onWire in absurd (omega arith)
 
-one-port : (v w : ℕ) (t : Token) → 1 ≤ length (onWire w (moves (v ∷ []) (some t ∷ []))) → v ≡ w
-one-port v w t h = unfold moves in split v w [] (some t) [] h (λ e x. e) (λ g. no-move w g)
-
-seen-reads : (b : Bool) (q : List Token) → seen b q ≢ none → b ≡ true
-unfolding seen
-seen-reads true q h = refl
-seen-reads false q h = absurd (h refl)
+-- a move on wire w comes from the first port or from a later one
+from-port : (P : ℕ → Type 0) (v w : ℕ) (ws : List ℕ) (x : Option Token) (ts : List (Option Token)) → (x ≢ none → P v)
+    → (1 ≤ length (onWire w (moves ws ts)) → P w) → 1 ≤ length (onWire w (moves (v ∷ ws) (x ∷ ts))) → P w
+unfolding moves onWire
+from-port P v w ws none ts f g h = g h
+from-port P v w ws (some t) ts f g h =
+    same-or v w (λ e. subst P e (f (λ q. (let z : _≡_ {A = ℕ} 0 1 = cc in omega arith)))) (λ ne. g (omega (arith, h, length-joined (eqb v w) t (onWire w (moves ws ts)), hit-other v w ne)))
 
 result-writes : (en : Env) (a : Action) → result en a ≢ none → writes a ≡ true
 unfolding result writes
@@ -60,29 +50,28 @@ result-writes en nothing h = absurd (h refl)
 result-writes en (bare t) h = refl
 result-writes en (send t e) h = refl
 
-read-nonempty : (p : Pattern) (q : List Token) → readyIn p q ≡ true → reads p ≡ true → 1 ≤ length q
-read-nonempty p q e r = unfold readyIn in nonempty q (and-left (not (empty q)) (matches p (oldest q)) (rw r at e))
+read-nonempty : (p : Pattern) (q : List Token) → readyIn p q ≡ true → seen (reads p) q ≢ none → 1 ≤ length q
+unfolding readyIn reads seen
+read-nonempty ignore q e h = absurd (h refl)
+read-nonempty (any t) q e h = nonempty q (and-left (not (empty q)) _ e)
+read-nonempty (only t z) q e h = nonempty q (and-left (not (empty q)) _ e)
 
 ins-ready : (s : State) (ws : List ℕ) (ps : List Pattern) (w : ℕ) → readyIns s ws ps ≡ true → 1 ≤ length (onWire w (moves ws (look s ws (map reads ps)))) → 1 ≤ length (queue s w)
-unfolding look readyIns moves
-ins-ready s [] ps w e h = no-move w h
-ins-ready s (v ∷ ws) [] w e h = no-move w h
-ins-ready s (v ∷ ws) (p ∷ ps) w e h =
+unfolding look readyIns
+ins-ready s [] ps w e = unfold moves in no-move w
+ins-ready s (v ∷ ws) [] w e = unfold moves in no-move w
+ins-ready s (v ∷ ws) (p ∷ ps) w e =
     let a = and₂ (readyIn p (queue s v)) (readyIns s ws ps) e in
-    split v w ws (seen (reads p) (queue s v)) (look s ws (map reads ps)) h
-    (λ q x. subst (λ (u : ℕ). 1 ≤ length (queue s u)) q (read-nonempty p (queue s v) (a .0) (seen-reads (reads p) (queue s v) x)))
-    (λ g. ins-ready s ws ps w (a .1) g)
+    from-port (λ (u : ℕ). 1 ≤ length (queue s u)) v w ws _ _ (read-nonempty p (queue s v) (a .0)) (ins-ready s ws ps w (a .1))
 
 outs-ready : (n : Net) (s : State) (en : Env) (ws : List ℕ) (acts : List Action) (w : ℕ) → readyOuts n s ws acts ≡ true
     → 1 ≤ length (onWire w (moves ws (map (result en) acts))) → length (queue s w) < capacity n w
-unfolding readyOuts moves
-outs-ready n s en [] acts w e h = no-move w h
-outs-ready n s en (v ∷ ws) [] w e h = no-move w h
-outs-ready n s en (v ∷ ws) (a ∷ acts) w e h =
+unfolding readyOuts
+outs-ready n s en [] acts w e = unfold moves in no-move w
+outs-ready n s en (v ∷ ws) [] w e = unfold moves in no-move w
+outs-ready n s en (v ∷ ws) (a ∷ acts) w e =
     let b = and₂ (not (writes a && full n s v)) (readyOuts n s ws acts) e in
-    split v w ws (result en a) (map (result en) acts) h
-    (λ q x. subst (λ (u : ℕ). length (queue s u) < capacity n u) q (not-full n s v (not-true (full n s v) (rw (result-writes en a x) at (b .0)))))
-    (λ g. outs-ready n s en ws acts w (b .1) g)
+    from-port (λ (u : ℕ). length (queue s u) < capacity n u) v w ws _ _ (λ x. not-full n s v (not-true (full n s v) (rw (result-writes en a x) at (b .0)))) (outs-ready n s en ws acts w (b .1))
 
 -- ── the chosen rule is ready ─────────────────────────────────────────────────────────────────
 
@@ -106,29 +95,30 @@ actions-fire en (send t x ∷ as′) m r e = actions-fire en as′ m r (faultles
 guarded-fires : (en : Env) (u : Rule) (k : ℕ) (o : Outcome) (r : ℕ) → guarded en u k o ≡ fires r → k ≡ r
 unfolding guarded chosen
 guarded-fires en u k (Value t z) r e =
-    let h : fires k ≡ fires r = actions-fire en (u .sets) (fires k) r (actions-fire en (u .outs) _ r ((attempt-fires (isTrue z) (chosen en u k) r e) .1)) in
+    let h : fires k ≡ fires r = actions-fire en (u .sets) (fires k) r (actions-fire en (u .outs) _ r ((attempt-fires _ (chosen en u k) r e) .1)) in
     cc
 guarded-fires en u k (Fault x) r e = let z : _≡_ {A = ℕ} 0 1 = cc in absurd (omega arith)
 
 -- a rule that fires is the one that was tried, and is ready
-try-fires : (n : Net) (s : State) (b : Box) (vs : List ℤ) (k r : ℕ) → tryRule n s b vs k ≡ fires r → (k ≡ r) × (readyRule n s b (rule b k) vs ≡ true)
-try-fires n s b vs k r e = unfold tryRule in
+try-fires : (n : Net) (s : State) (b : Box) (o : Own) (k r : ℕ) → tryRule n s b (varsOf o) k ≡ fires r → (k ≡ r) × (readyRule n s b (rule b k) (varsOf o) ≡ true)
+try-fires n s b o k r e = unfold tryRule in
     let u = rule b k in
-    let en = envOf n b u (look s (b .ins) (map reads (u .ins))) vs in
-    let h = attempt-fires (readyRule n s b u vs) (guarded en u k (valueOf en (u .guard))) r e in
+    let en = envOf n b u (look s (b .ins) (map reads (u .ins))) (varsOf o) in
+    let h = attempt-fires (readyRule n s b u (varsOf o)) (guarded en u k (valueOf en (u .guard))) r e in
     (guarded-fires en u k (valueOf en (u .guard)) r (h .1), h .0)
+
+orElse-fires : {A : Type 0} (x y : Mark) (r : ℕ) → orElse x y ≡ fires r → (x ≡ fires r → A) → (y ≡ fires r → A) → A
+unfolding orElse
+orElse-fires quiet y r e f g = g e
+orElse-fires (fires x) y r e f g = f e
+orElse-fires (faulty x) y r e f g = let z : _≡_ {A = ℕ} 0 1 = cc in absurd (omega arith)
 
 -- one of those tried fires, in whatever order they are
 first-in : (f : ℕ → Mark) (ks : List ℕ) (r : ℕ) → first f ks ≡ fires r → (k : ℕ) × (1 ≤ count k ks) × (f k ≡ fires r)
-unfolding first orElse count
+unfolding first count
 first-in f [] r e = let z : _≡_ {A = ℕ} 0 1 = cc in absurd (omega arith)
-first-in f (k ∷ ks) r e = go (f k) refl e (first-in f ks r)
-  where
-    go : (x : Mark) → f k ≡ x → orElse x (first f ks) ≡ fires r → (first f ks ≡ fires r → (j : ℕ) × (1 ≤ count j ks) × (f j ≡ fires r))
-        → (j : ℕ) × (1 ≤ hit (eqb k j) + count j ks) × (f j ≡ fires r)
-    go quiet q g ih = let i = ih g in (i .0, omega (arith, i .1), i .2)
-    go (fires y) q g ih = (k, omega (arith, hit-same k k refl), q ∙ g)
-    go (faulty y) q g ih = let z : _≡_ {A = ℕ} 0 1 = cc in absurd (omega arith)
+first-in f (k ∷ ks) r e =
+    orElse-fires (f k) (first f ks) r e (λ q. (k, omega (arith, hit-same k k refl), q)) (λ q. (let i = first-in f ks r q in (i .0, omega (arith, i .1), i .2)))
 
 pub upFrom-in : (i c j : ℕ) → 1 ≤ count j (upFrom i c) → j < i + c
 unfolding upFrom count
@@ -139,7 +129,7 @@ upFrom-in i (suc c) j h = same-or i j (λ e. omega (arith, e)) (λ f. omega (ari
 pub rule-chosen : (n : Net) (s : State) (b : Box) (o : Own) (r : ℕ) → markOf n s (box b) o ≡ fires r → (r < length (b .rules)) × (readyRule n s b (rule b r) (varsOf o) ≡ true)
 rule-chosen n s b o r e = unfold markOf tried in
     let f = first-in (tryRule n s b (varsOf o)) (upFrom 0 (length (b .rules))) r e in
-    let q = try-fires n s b (varsOf o) (f .0) r (f .2) in
+    let q = try-fires n s b o (f .0) r (f .2) in
     (omega (arith, q .0, upFrom-in 0 (length (b .rules)) (f .0) (f .1)), rw (q .0) at (q .1))
 
 pub flag-fires : (b : Bool) (r : ℕ) → flag b ≡ fires r → b ≡ true
@@ -149,31 +139,20 @@ flag-fires false r e = let z : _≡_ {A = ℕ} 0 1 = cc in absurd (omega arith)
 
 -- ── a marked process is ready ────────────────────────────────────────────────────────────────
 
-record ReadyOf (n : Net) (s : State) (p : Proc) (r : ℕ) (o : Own) : Type 0 where
-  has : (w : ℕ) → 1 ≤ length (onWire w (moves (insOf p) (look s (insOf p) (readsOf p r)))) → 1 ≤ length (queue s w)
-  room : (sees : List (Option Token)) (w : ℕ) → 1 ≤ length (onWire w (moves (outsOf p) (sentOf n p r sees o))) → length (queue s w) < capacity n w
-
-mark-ready : (n : Net) (s : State) (p : Proc) (r : ℕ) (o : Own) → markOf n s p o ≡ fires r → ReadyOf n s p r o
-unfolding insOf outsOf readsOf sentOf
+mark-ready : (n : Net) (s : State) (p : Proc) (r : ℕ) (o : Own) → markOf n s p o ≡ fires r
+    → ((w : ℕ) → 1 ≤ length (onWire w (moves (insOf p) (look s (insOf p) (readsOf p r)))) → 1 ≤ length (queue s w))
+    × ((sees : List (Option Token)) (w : ℕ) → 1 ≤ length (onWire w (moves (outsOf p) (sentOf n p r sees o))) → length (queue s w) < capacity n w)
+unfolding insOf outsOf readsOf sentOf moves look
 mark-ready n s (box b) r o e =
     let u = rule b r in
     let y = and₃ (readyIns s (b .ins) (u .ins)) (readyVars (varsOf o) (u .vars)) (readyOuts n s (b .outs) (u .outs)) (unfold readyRule in (rule-chosen n s b o r e) .1) in
-    record {
-      has = λ w h. ins-ready s (b .ins) (u .ins) w (y .0) h;
-      room = λ sees w h. outs-ready n s (envOf n b u sees (varsOf o)) (b .outs) (u .outs) w (y .2) h;
-    }
+    (λ w. ins-ready s (b .ins) (u .ins) w (y .0), λ sees w. outs-ready n s (envOf n b u sees (varsOf o)) (b .outs) (u .outs) w (y .2))
 mark-ready n s (input v ts) r o e =
     let f = not-true (full n s v) (and-right (ltb (takenOf o) (length ts)) (not (full n s v)) (flag-fires _ r (unfold markOf in e))) in
-    record {
-      has = λ w h. no-move w (unfold moves in h);
-      room = λ sees w h. subst (λ (u : ℕ). length (queue s u) < capacity n u) (one-port v w _ h) (not-full n s v f);
-    }
+    (λ w. no-move w, λ sees w. from-port (λ (u : ℕ). length (queue s u) < capacity n u) v w [] (some (getD ts (takenOf o) noToken)) [] (λ x. not-full n s v f) (no-move w))
 mark-ready n s (output v c) r o e =
     let f = nonempty (queue s v) (and-left (not (empty (queue s v))) (ltb (length (gotOf o)) c) (flag-fires _ r (unfold markOf in e))) in
-    record {
-      has = λ w h. subst (λ (u : ℕ). 1 ≤ length (queue s u)) (one-port v w (oldest (queue s v)) (unfold look seen in h)) f;
-      room = λ sees w h. no-move w (unfold moves in h);
-    }
+    (λ w. from-port (λ (u : ℕ). 1 ≤ length (queue s u)) v w [] (seen true (queue s v)) [] (λ x. f) (no-move w), λ sees w. no-move w)
 
 short : (a b c : ℕ) → a ≤ 1 → (1 ≤ a → b < c) → b ≤ c → b + a ≤ c
 short zero b c h g l = omega arith
@@ -185,75 +164,66 @@ marked-ready n one s sh fit m k r q e = unfold mark deed deedOf ruleOf in
     let h = mark-ready n s (proc n k) r (own s k) e in
     record {
       shape = sh;
-      has = λ w. omega (arith, short (length (onWire w ((deed n m k s) .took))) 0 (length (queue s w)) (took-one n m one k s w) (λ g. h .has w (rw q at g)) (omega arith));
-      room = λ w. short _ (length (queue s w)) (capacity n w) (put-one n m one k s w) (λ g. h .room _ w (rw q at g)) (fit w);
+      has = λ w. omega (arith, short (length (onWire w ((deed n m k s) .took))) 0 (length (queue s w)) ((moved-one n m one k s w) .0) (λ g. h .0 w (rw q at g)) (omega arith));
+      room = λ w. short _ (length (queue s w)) (capacity n w) ((moved-one n m one k s w) .1) (λ g. h .1 _ w (rw q at g)) (fit w);
     }
 
 -- ── what is taken is the oldest ──────────────────────────────────────────────────────────────
 
-took-oldest : (s : State) (ws : List ℕ) (ps : List Bool) (w : ℕ) → onWire w (moves ws (look s ws ps)) ≡ replicate (length (onWire w (moves ws (look s ws ps)))) (oldest (queue s w))
-unfolding look seen moves onWire joined
-took-oldest s [] ps w = refl
-took-oldest s (v ∷ ws) [] w = refl
-took-oldest s (v ∷ ws) (false ∷ ps) w = took-oldest s ws ps w
-took-oldest s (v ∷ ws) (true ∷ ps) w =
-    same-or v w (λ e. rw (e, eq-eqb w w refl) (ap (λ (l : List Token). oldest (queue s w) ∷ l) (took-oldest s ws ps w))) (λ f. rw (ne-eqb v w f) (took-oldest s ws ps w))
-
-front : (c : ℕ) (q : List Token) → c ≤ 1 → c ≤ length q → replicate c (oldest q) ++ drop c q ≡ q
+front : (q ts : List Token) → length ts ≡ 0 → 1 ≤ length q → (oldest q ∷ ts) ++ drop (suc (length ts)) q ≡ q
 unfolding oldest
-front zero q h g = refl
-front (suc zero) [] h g = absurd (omega arith)
-front (suc zero) (t ∷ q) h g = refl
-front (suc (suc c)) q h g = absurd (omega arith)
+front [] ts z h = absurd (omega arith)
+front (t ∷ q) [] z h = refl
+front (t ∷ q) (x ∷ ts) z h = absurd (omega arith)
+
+took-front : (s : State) (ws : List ℕ) (ps : List Bool) (w : ℕ)
+    → let t = onWire w (moves ws (look s ws ps)) in length t ≤ 1 → length t ≤ length (queue s w) → t ++ drop (length t) (queue s w) ≡ queue s w
+unfolding look seen moves onWire joined
+took-front s [] ps w h g = refl
+took-front s (v ∷ ws) [] w h g = refl
+took-front s (v ∷ ws) (false ∷ ps) w h g = took-front s ws ps w h g
+took-front s (v ∷ ws) (true ∷ ps) w h g =
+    let t = onWire w (moves ws (look s ws ps)) in
+    let l = length-joined (eqb v w) (oldest (queue s v)) t in
+    same-or v w (λ e. rw (e, eq-eqb w w refl) (front (queue s w) t (omega (arith, h, l, hit-same v w e)) (omega (arith, g, l, hit-same v w e))))
+    (λ f. rw (ne-eqb v w f) (took-front s ws ps w (omega (arith, h, l)) (omega (arith, g, l))))
 
 -- ── one firing keeps the network sound ───────────────────────────────────────────────────────
 
-put-snoc : (w : ℕ) (ds : List Deed) (d : Deed) → putOn w (ds ++ (d ∷ [])) ≡ putOn w ds ++ onWire w (d .put)
-unfolding putOn
-put-snoc w [] d = append-nil (onWire w (d .put))
-put-snoc w (e ∷ ds) d = rw (put-snoc w ds d) (sym (append-assoc (onWire w (e .put)) (putOn w ds) (onWire w (d .put))))
-
-taken-snoc : (w : ℕ) (ds : List Deed) (d : Deed) → takenFrom w (ds ++ (d ∷ [])) ≡ takenFrom w ds ++ onWire w (d .took)
-unfolding takenFrom
-taken-snoc w [] d = append-nil (onWire w (d .took))
-taken-snoc w (e ∷ ds) d = rw (taken-snoc w ds d) (sym (append-assoc (onWire w (e .took)) (takenFrom w ds) (onWire w (d .took))))
+-- what deeds put, or took, with one deed more
+module _ (f : List Deed → List Token) (g : Deed → List Token) (none′ : f [] ≡ []) (more : (d : Deed) (ds : List Deed) → f (d ∷ ds) ≡ g d ++ f ds) where
+  snoc : (ds : List Deed) (d : Deed) → f (ds ++ (d ∷ [])) ≡ f ds ++ g d
+  snoc [] d = more d [] ∙ rw none′ (append-nil (g d))
+  snoc (e ∷ ds) d = more e (ds ++ (d ∷ [])) ∙ rw (snoc ds d, more e ds) (sym (append-assoc (g e) (f ds) (g d)))
 
 module _ (n : Net) (m : ℕ → Mark) (one : OneEach n) where
   -- the queue before, from what was taken and what is left
   queue-split : (k : ℕ) (s : State) → Ready n m k s → (w : ℕ) → onWire w ((deed n m k s) .took) ++ drop (length (onWire w ((deed n m k s) .took))) (queue s w) ≡ queue s w
-  queue-split k s r w = unfold deed deedOf in
-      let p = proc n k in
-      let t = onWire w (moves (insOf p) (look s (insOf p) (readsOf p (ruleOf (m k))))) in
-      ap (λ (l : List Token). l ++ drop (length t) (queue s w)) (took-oldest s (insOf p) (readsOf p (ruleOf (m k))) w)
-      ∙ front (length t) (queue s w) (took-one n m one k s w) (r .has w)
+  queue-split k s r w = unfold deed deedOf in took-front s (insOf (proc n k)) (readsOf (proc n k) (ruleOf (m k))) w ((moved-one n m one k s w) .0) (r .has w)
 
   pub sound-next : (k : ℕ) (s : State) (ds : List Deed) → Ready n m k s → Sound n s ds → Sound n (fire n m k s) (ds ++ (deed n m k s ∷ []))
-  sound-next k s ds r q =
+  sound-next k s ds r q = unfold putOn takenFrom in
       let d = deed n m k s in
       record {
         shape = unfold fire in length-act k d s ∙ q .shape;
         fits = λ w. omega (arith, length-fire n m one k s r w, r .room w);
-        fifo = λ w. rw (put-snoc w ds d, taken-snoc w ds d, queue-fire n m one k s r w)
+        fifo = λ w. rw (snoc (putOn w) (λ e. onWire w (e .put)) refl (λ e es. refl) ds d, snoc (takenFrom w) (λ e. onWire w (e .took)) refl (λ e es. refl) ds d, queue-fire n m one k s r w)
             (ap (λ (l : List Token). l ++ onWire w (d .put)) (q .fifo w ∙ ap (λ (l : List Token). takenFrom w ds ++ l) (sym (queue-split k s r w))) ∙ simp append-assoc);
       }
 
-  -- part of an order
-  part : (done rest : List ℕ) (s : State) (ds : List Deed) → Due n m one (done ++ rest) s → Sound n s ds
-      → Sound n (fireAll n m done s) (ds ++ deeds n m done s) × Due n m one rest (fireAll n m done s)
-  unfolding fireAll deeds
-  part [] rest s ds d q = (rw append-nil q, d)
-  part (k ∷ done) rest s ds d q =
-      let r = due-first n m one k (done ++ rest) s d in
-      let p = part done rest (fire n m k s) (ds ++ (deed n m k s ∷ [])) (due-next n m one k (done ++ rest) s d) (sound-next k s ds r q) in
-      (rw append-assoc at (p .0), p .1)
-
-  -- what a process does midway in a cycle is what it would have done at the cycle's start
-  deed-midway : (done : List ℕ) (k : ℕ) (rest : List ℕ) (s : State) → Due n m one (done ++ k ∷ rest) s → deed n m k (fireAll n m done s) ≡ deed n m k s
-  unfolding fireAll count
-  deed-midway [] k rest s d = refl
-  deed-midway (j ∷ done) k rest s d =
-      let o = due-other n m one j (done ++ k ∷ rest) s d k (omega (arith, count-append k done (k ∷ rest), hit-same k k refl)) in
-      deed-midway done k rest (fire n m j s) (due-next n m one j (done ++ k ∷ rest) s d) ∙ deed-frame n m one k j s (o .0) (o .1) (due-first n m one j (done ++ k ∷ rest) s d)
+  -- the first firings of an order: what each keeps holds after them, and what is true of the deeds of the others, which are due then
+  module _ (D : ℕ → Deed → Type 0) (P : State → List Deed → Type 0)
+      (keep : (k : ℕ) (s : State) (ds : List Deed) → Ready n m k s → D k (deed n m k s) → P s ds → P (fire n m k s) (ds ++ (deed n m k s ∷ []))) where
+    pub part : (done rest : List ℕ) (s : State) (ds : List Deed) → Due n m one (done ++ rest) s → ((k : ℕ) → 1 ≤ count k (done ++ rest) → D k (deed n m k s)) → P s ds
+        → P (fireAll n m done s) (ds ++ deeds n m done s) × Due n m one rest (fireAll n m done s) × ((k : ℕ) → 1 ≤ count k rest → D k (deed n m k (fireAll n m done s)))
+    unfolding fireAll deeds count
+    part [] rest s ds d h p = (rw append-nil p, d, h)
+    part (k ∷ done) rest s ds d h p =
+        let r = due-first n m one k (done ++ rest) s d in
+        let others : (j : ℕ) → 1 ≤ count j (done ++ rest) → D j (deed n m j (fire n m k s)) = λ j g.
+        (let o = due-other n m one k (done ++ rest) s d j g in rw (deed-frame n m one j k s (o .0) (o .1) r) (h j (omega (arith, g)))) in
+        let q = part done rest (fire n m k s) (ds ++ (deed n m k s ∷ [])) (due-next n m one k (done ++ rest) s d) others (keep k s ds r (h k (omega (arith, hit-same k k refl))) p) in
+        (rw append-assoc at (q .0), q .1, q .2)
 
 -- ── the marked set ───────────────────────────────────────────────────────────────────────────
 
@@ -318,12 +288,17 @@ module _ (n : Net) (one : OneEach n) where
     ready = λ k h. (let f = named-fires n s ks o k h in marked-ready n one s sh fit (mark n s) k (f .0) (f .1) (f .1));
   }
 
+  -- its first firings: the network is sound, the others are due, and do what they would have done at the start
+  along : {s : State} {ds : List Deed} → Sound n s ds → (done rest : List ℕ) → Order n s (done ++ rest) → Sound n (midway n s done) (ds ++ deeds n (mark n s) done s)
+      × Due n (mark n s) one rest (midway n s done) × ((k : ℕ) → 1 ≤ count k rest → deed n (mark n s) k (midway n s done) ≡ deed n (mark n s) k s)
+  along {s} {ds} q done rest o = unfold midway in
+      part n (mark n s) one (λ k d. d ≡ deed n (mark n s) k s) (Sound n) (λ k t es r e. sound-next n (mark n s) one k t es r) done rest s ds
+      (order-due s (done ++ rest) (q .shape) (q .fits) o) (λ k h. refl) q
+
   pub reached-sound : {s : State} {ds : List Deed} → Reached n s ds → Sound n s ds
-  unfolding cycleIn
+  unfolding cycleIn midway
   reached-sound at-load = load-sound n
-  reached-sound (cycled {s = s} {ds = ds} ks x o) =
-      let q = reached-sound x in
-      (part n (mark n s) one ks [] s ds (rw append-nil (order-due s ks (q .shape) (q .fits) o)) q) .0
+  reached-sound (cycled ks x o) = (along (reached-sound x) ks [] (rw append-nil o)) .0
 
   -- all orders end a cycle in the same state
   same-state : {s : State} {ds : List Deed} → Reached n s ds → (ks ls : List ℕ) → Order n s ks → Order n s ls → cycleIn n ks s ≡ cycleIn n ls s
@@ -333,13 +308,13 @@ module _ (n : Net) (one : OneEach n) where
 
   -- each single firing
   each-firing : {s : State} {ds : List Deed} → Reached n s ds → (done : List ℕ) (k : ℕ) (rest : List ℕ) → Order n s (done ++ k ∷ rest) → Firing n s ds done k
-  each-firing {s} {ds} x done k rest o = unfold midway in
+  each-firing {s} {ds} x done k rest o =
       let q = reached-sound x in
-      let d = order-due s (done ++ k ∷ rest) (q .shape) (q .fits) o in
+      let a = along q done (k ∷ rest) o in
       record {
-        nonempty = (due-first n (mark n s) one k rest _ ((part n (mark n s) one done (k ∷ rest) s ds d q) .1)) .has;
-        sound = (part n (mark n s) one (done ++ (k ∷ [])) rest s ds (rw append-assoc d) q) .0;
-        as-at-start = deed-midway n (mark n s) one done k rest s d;
+        nonempty = (due-first n (mark n s) one k rest _ (a .1)) .has;
+        sound = (along q (done ++ (k ∷ [])) rest (rw append-assoc o)) .0;
+        as-at-start = a .2 k (unfold count in omega (arith, hit-same k k refl));
       }
 
   pub orders-alike : AnyOrder n

@@ -122,29 +122,25 @@ then-good t v (Fault n) f p g = ((g (pos 0)) .0, tt)
 -- not and lnot
 one-good : (o : ℕ) (t v : Ty) (a : ℤ) → Fine t → oneType o t ≡ typed v → Good v (applyOne o t a)
 one-good o t v a f e = unfold applyOne oneType in
-    judged-good (cond (eqb o 4) (isBool t) (isNumber t)) t v (applyOne o t a) e (λ h. (
-      f,
-      cases (eqb o 4) (λ c. rw c (let q = is-bool t f (rw c at h) in (sym q, rw q (truth-within (not (isTrue a))))))
-          (λ c. rw c (refl, read-within t _ (f .low) (complement _ (2 ^ t .p) (pow-pos (t .p))))),
-    ))
+    let x : cond (eqb o 4) (isBool t) (isNumber t) ≡ true → Of t (applyOne o t a) = λ h.
+    cases (eqb o 4) (λ c. rw c (let q = is-bool t f (rw c at h) in (sym q, rw q (truth-within (not (isTrue a))))))
+    (λ c. rw c (refl, read-within t _ (f .low) (complement _ (2 ^ t .p) (pow-pos (t .p))))) in
+    judged-good (cond (eqb o 4) (isBool t) (isNumber t)) t v (applyOne o t a) e (λ h. (f, x h))
 
 -- the two-operand operators: up to 19 the left side's type, then bool
-two-good : (o : ℕ) (t u v : Ty) (a b : ℤ) → Fine t → twoType o t u ≡ typed v → Good v (apply o t a b)
-unfolding twoType apply
-two-good o t u v a b f e =
-    cases (leb o 17) (λ c. left (le-leb o 19 (omega (arith, leb-true o 17 c))) _ (rw c at e))
-    (λ c. cases (leb o 19) (λ d. left d _ (rw (c, d) at e))
-    (λ d. cases (leb o 21) (λ g. right d _ (rw (c, d, g) at e))
-    (λ g. cases (leb o 25) (λ h. right d _ (rw (c, d, g, h) at e)) (λ h. right d _ (rw (c, d, g, h) at e)))))
-  where
-    left : leb o 19 ≡ true → (c : Bool) → judged c t ≡ typed v → Good v (apply o t a b)
-    left d c q = judged-good c t v (apply o t a b) q (λ h. (f, cond-keeps (Of t) (leb o 14) _ _ (arithmetic-of o t a b (f .low)) (rw d (refl, bitwise-within o t a b (f .low)))))
+two-of : (o : ℕ) (t : Ty) (a b : ℤ) → 1 ≤ t .p → Of (cond (leb o 19) t bool) (apply o t a b)
+two-of o t a b h = unfold apply in
+    cases (leb o 19) (λ d. rw d (cond-keeps (Of t) (leb o 14) _ _ (arithmetic-of o t a b h) (refl, bitwise-within o t a b h)))
+    (λ d. rw (lt-leb o 14 (omega (arith, leb-false o 19 d)), d) (cond-keeps (Of bool) (leb o 25) _ _ (refl, truth-within (compare o a b)) (refl, truth-within (logic o a b))))
 
-    right : leb o 19 ≡ false → (c : Bool) → judged c bool ≡ typed v → Good v (apply o t a b)
-    right d c q =
-        let x : Of bool (apply o t a b) = rw (lt-leb o 14 (omega (arith, leb-false o 19 d)), d)
-        (cond-keeps (Of bool) (leb o 25) _ _ (refl, truth-within (compare o a b)) (refl, truth-within (logic o a b))) in
-        judged-good c bool v (apply o t a b) q (λ h. (fine-bool, x))
+two-good : (o : ℕ) (t u v : Ty) (a b : ℤ) → Fine t → twoType o t u ≡ typed v → Good v (apply o t a b)
+two-good o t u v a b f e = unfold twoType in
+    let good : (c : Bool) (w : Ty) → cond (leb o 19) t bool ≡ w → judged c w ≡ typed v → Good v (apply o t a b)
+    = λ c w k q. judged-good c w v (apply o t a b) q (λ h. rw (← k) (cond-keeps Fine (leb o 19) t bool f fine-bool, two-of o t a b (f .low))) in
+    cases (leb o 17) (λ c. good _ t (rw (le-leb o 19 (omega (arith, leb-true o 17 c)))) (rw c at e))
+    (λ c. cases (leb o 19) (λ d. good _ t (rw d) (rw (c, d) at e))
+    (λ d. cases (leb o 21) (λ g. good _ bool (rw d) (rw (c, d, g) at e))
+    (λ g. cases (leb o 25) (λ h. good _ bool (rw d) (rw (c, d, g, h) at e)) (λ h. good _ bool (rw d) (rw (c, d, g, h) at e)))))
 
 pub value-of : (en : Env) → GoodEnv en → (e : Exp) → precise e ≡ true → (t : Ty) → typeOf (en .scope) e ≡ typed t → Good t (valueOf en e)
 unfolding typeOf precise valueOf

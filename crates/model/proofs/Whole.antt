@@ -5,7 +5,6 @@ use mathlib.Core.Bool.{Bool, true, false, cond, _&&_}
 use mathlib.Core.List.{List, [], _∷_, _++_, append-nil, append-assoc}
 use Prim.Native.Nat.{ℕ, zero, suc, _+_, _≤_, _<_, _%_}
 use native.Mathlib.Omega.{arith}
-use native.Mathlib.Decide.{decLt}
 use lib.Dec.{eqb, leb, ltb}
 use lib.ListN.{length, getD}
 use borrow.Author.Tests.{eqb-true, leb-true, ltb-true, ltb-false}
@@ -19,7 +18,7 @@ use Rattle.model.specs.Network.{Box, Proc, box, input, output, Net, wire
 use Rattle.model.specs.NetworkFile.{Index, fieldAt, Verdict, good, refuse, next, orRefuse, tabulate, inputForm, outputForm, outputLimits, bodyAt, wireOf, wiresOf, boxAt, inputAt, outputAt, netOf, fields, count, ports, portsFit, lowestFrom, oddWire, portsOf, network}
 use Rattle.model.specs.States.{tokensFit, tokenField, tokensIn, inputTokens, tokensFrom, tokenFile, inputTypes}
 use Rattle.model.specs.Calls.{tokened, withTokens}
-use Rattle.model.proofs.Tests.{and₂, and₃}
+use Rattle.model.proofs.Tests.{and₂, and₃, cases, same-or}
 use Rattle.model.proofs.Order.{OneEach, count-append, hit-other}
 use Rattle.model.proofs.Accepted.{Valid, fields-valid}
 use Rattle.model.proofs.Lookup.{wires-length}
@@ -162,15 +161,9 @@ module _ (s : List ℕ) (x : Index) (q : Valid s x) (tokens : List (List Token))
 lowest-all : (f : ℕ → Bool) (w k : ℕ) → w + k ≤ lowestFrom f w k → (j : ℕ) → w ≤ j → j < w + k → f j ≡ true
 unfolding lowestFrom
 lowest-all f w zero e j h g = absurd (omega arith)
-lowest-all f w (suc k) e j h g = by-test (f w) refl e (λ l i. lowest-all f (suc w) k l j i (omega (arith, g)))
-  where
-    by-test : (b : Bool) → f w ≡ b → w + suc k ≤ cond b (lowestFrom f (suc w) k) w → (suc w + k ≤ lowestFrom f (suc w) k → suc w ≤ j → f j ≡ true) → f j ≡ true
-    by-test true q l ih = by-place (decLt w j)
-      where
-        by-place : Dec (w < j) → f j ≡ true
-        by-place (yes i) = ih (omega (arith, l)) i
-        by-place (no i) = let p : j ≡ w = omega (arith, h, i) in rw p q
-    by-test false q l ih = absurd (omega (arith, l))
+lowest-all f w (suc k) e j h g =
+    cases (f w) (λ q. same-or w j (λ p. rw p at q) (λ p. lowest-all f (suc w) k (let l = rw q at e in omega (arith, l)) j (omega (arith, h, p)) (omega (arith, g))))
+    (λ q. (let l = rw q at e in absurd (omega (arith, l))))
 
 count-none : (c : ℕ) (ws : List ℕ) → Each (λ w. w < c) 0 ws → (w : ℕ) → c ≤ w → count w ws ≡ 0
 unfolding count
@@ -185,6 +178,11 @@ module _ (f : Proc → List ℕ) where
   ports-none c (p ∷ ps) a w h =
       omega (arith, count-append w (f p) (ports f ps), count-none c (f p) (a 0 (omega arith)) w h, ports-none c ps (λ k g. a (suc k) (omega (arith, g))) w h)
 
+  -- so no wire has two of them, where each wire that is there has one
+  ports-one : (c : ℕ) (ps : List Proc) → Each (λ p. Each (λ w. w < c) 0 (f p)) nobody ps → ((w : ℕ) → w < c → eqb (count w (ports f ps)) 1 ≡ true) → (w : ℕ) → count w (ports f ps) ≤ 1
+  ports-one c ps a one w =
+      cases (ltb w c) (λ h. omega (arith, eqb-true (count w (ports f ps)) 1 (one w (ltb-true w c h)))) (λ h. omega (arith, ports-none c ps a w (ltb-false w c h)))
+
   ports-append : (ps qs : List Proc) → ports f (ps ++ qs) ≡ ports f ps ++ ports f qs
   unfolding ports
   ports-append [] qs = refl
@@ -198,45 +196,23 @@ module _ (f : Proc → List ℕ) where
   -- the ports don't depend on the tokens
   ports-same : (s : List ℕ) (x : Index) (tokens : List (List Token)) → ((w : ℕ) (a b : List Token) → f (input w a) ≡ f (input w b))
       → ports f ((netOf s x tokens) .procs) ≡ ports f ((netOf s x []) .procs)
-  unfolding netOf
-  ports-same s x tokens e =
-      let bs = tabulate (length (x .boxes)) (λ b. box (boxAt s x b)) in
-      let os = tabulate (length (x .outputs)) (outputAt s x) in
-      let is : List (List Token) → List Proc = λ ts. tabulate (length (x .inputs)) (inputAt s x ts) in
-      let apart : (ts : List (List Token)) → ports f (bs ++ is ts ++ os) ≡ ports f bs ++ ports f (is ts) ++ ports f os
-      = λ ts. ports-append (bs ++ is ts) os ∙ ap (λ (l : List ℕ). l ++ ports f os) (ports-append bs (is ts)) in
-      apart tokens
-      ∙ ap (λ (l : List ℕ). ports f bs ++ l ++ ports f os) (ports-alike (length (x .inputs)) (inputAt s x tokens) (inputAt s x []) (λ i. unfold inputAt in e _ _ _))
-      ∙ sym (apart [])
+  ports-same s x tokens e = unfold netOf in simp ports-append (rw (ports-alike (length (x .inputs)) (inputAt s x tokens) (inputAt s x []) (λ i. unfold inputAt in e _ _ _)))
 
-proc-ins : (n : Net) (p : Proc) → GoodProc n p → Each (λ w. w < length (n .wires)) 0 (insOf p)
-unfolding insOf
-proc-ins n (box b) g = g .ins
-proc-ins n (input w ts) g = λ k h. absurd (omega (arith, h))
-proc-ins n (output w room) g = λ k h. (let e : k ≡ 0 = omega (arith, h) in rw e (g .0))
-
-proc-outs : (n : Net) (p : Proc) → GoodProc n p → Each (λ w. w < length (n .wires)) 0 (outsOf p)
-unfolding outsOf
-proc-outs n (box b) g = g .outs
-proc-outs n (input w ts) g = λ k h. (let e : k ≡ 0 = omega (arith, h) in rw e (g .0))
-proc-outs n (output w room) g = λ k h. absurd (omega (arith, h))
+-- the ports of a good process are wires of the network
+proc-ports : (n : Net) (p : Proc) → GoodProc n p → Each (λ w. w < length (n .wires)) 0 (insOf p) × Each (λ w. w < length (n .wires)) 0 (outsOf p)
+unfolding insOf outsOf
+proc-ports n (box b) g = (g .ins, g .outs)
+proc-ports n (input w ts) g = (λ k h. absurd (omega (arith, h)), λ k h. (let e : k ≡ 0 = omega (arith, h) in rw e (g .0)))
+proc-ports n (output w room) g = (λ k h. (let e : k ≡ 0 = omega (arith, h) in rw e (g .0)), λ k h. absurd (omega (arith, h)))
 
 -- exactly one reading and one writing port a wire
 pub one-each : (n : Net) → GoodNet n → ((w : ℕ) → w < length (n .wires) → portsFit (n .procs) w ≡ true) → OneEach n
-unfolding portsFit
-one-each n g fit = record {
-  readers = λ w. by-wire insOf (proc-ins n) w (decLt w (length (n .wires))) (λ h. (parts w h) .0);
-  writers = λ w. by-wire outsOf (proc-outs n) w (decLt w (length (n .wires))) (λ h. (parts w h) .1);
-}
-  where
-    parts : (w : ℕ) → w < length (n .wires) → (eqb (count w (ports insOf (n .procs))) 1 ≡ true) × (eqb (count w (ports outsOf (n .procs))) 1 ≡ true)
-    parts w h = and₂ (eqb (count w (ports insOf (n .procs))) 1) (eqb (count w (ports outsOf (n .procs))) 1) (fit w h)
-
-    by-wire : (f : Proc → List ℕ) → ((p : Proc) → GoodProc n p → Each (λ w. w < length (n .wires)) 0 (f p)) → (w : ℕ) → Dec (w < length (n .wires))
-        → (w < length (n .wires) → eqb (count w (ports f (n .procs))) 1 ≡ true) → count w (ports f (n .procs)) ≤ 1
-    by-wire f in-wires w (yes h) one = omega (arith, eqb-true (count w (ports f (n .procs))) 1 (one h))
-    by-wire f in-wires w (no h) one =
-        omega (arith, ports-none f (length (n .wires)) (n .procs) (λ k l. in-wires (getD (n .procs) k nobody) (g .procs k l)) w (omega (arith, h)))
+one-each n g fit = unfold portsFit in
+    let once : (w : ℕ) → w < length (n .wires) → (eqb (count w (ports insOf (n .procs))) 1 ≡ true) × (eqb (count w (ports outsOf (n .procs))) 1 ≡ true) = λ w h. and₂ _ _ (fit w h) in
+    record {
+      readers = ports-one insOf (length (n .wires)) (n .procs) (λ k h. (proc-ports n (getD (n .procs) k nobody) (g .procs k h)) .0) (λ w h. (once w h) .0);
+      writers = ports-one outsOf (length (n .wires)) (n .procs) (λ k h. (proc-ports n (getD (n .procs) k nobody) (g .procs k h)) .1) (λ w h. (once w h) .1);
+    }
 
 -- ── an accepted network with an accepted token file ──────────────────────────────────────────
 
@@ -290,12 +266,10 @@ module _ (s : List ℕ) (x : Index) (c : Checked s x) (tokens : List (List Token
   m = netOf s x tokens
 
   pub ports-all : (w : ℕ) → w < length (m .wires) → portsFit (m .procs) w ≡ true
-  unfolding portsFit oddWire
-  ports-all w h =
-      let l : w < length (x .wires) = omega (arith, wires-length s x tokens) in
-      let e : length ((netOf s x []) .wires) ≡ length (x .wires) = wires-length s x [] in
+  ports-all w h = unfold portsFit oddWire in
+      let e = wires-length s x [] in
       rw (ports-same insOf s x tokens (λ v a b. unfold insOf in refl), ports-same outsOf s x tokens (λ v a b. unfold outsOf in refl))
-      (lowest-all (portsFit ((netOf s x []) .procs)) 0 (length ((netOf s x []) .wires)) (omega (arith, c .wired, e)) w (omega arith) (omega (arith, e)))
+      (lowest-all (portsFit ((netOf s x []) .procs)) 0 (length ((netOf s x []) .wires)) (omega (arith, c .wired, e)) w (omega arith) (omega (arith, h, e, wires-length s x tokens)))
 
   -- the tokens that a token file holds for it fit
   types-at : (i : ℕ) → i < length (x .inputs) → getD (inputTypes (netOf s x []) ((netOf s x []) .procs)) i noType ≡ (wire m (inputWire s x i)) .ty

@@ -3,7 +3,7 @@
 use Prim.Native.Nat.{ℕ, zero, suc}
 use mathlib.Core.Path.{_≡_, refl}
 use mathlib.Core.List.{List, [], _∷_, _++_, map}
-use lib.ListN.{replicate}
+use lib.ListN.{drop, replicate}
 use lib.IntN.{ℤ, pos, negsuc}
 use Rattle.model.specs.declared.Ty.{Ty}
 use Rattle.model.specs.declared.Outcome.{Outcome}
@@ -42,6 +42,16 @@ none-for-one = 32 ∷ 0 ∷ 0 ∷ []
 -- a box whose one guard asks whether 1 / 0 is 0
 unfoldable by-zero : List ℕ
 by-zero = 2 ∷ 0 ∷ 3 ∷ 0 ∷ 0 ∷ 0 ∷ 3 ∷ 0 ∷ 23 ∷ 20 ∷ 13 ∷ 0 ∷ 1 ∷ 2 ∷ 0 ∷ 0 ∷ 0 ∷ 1 ∷ 0 ∷ 1 ∷ 2 ∷ 0 ∷ 0 ∷ 0 ∷ 0 ∷ 0 ∷ 1 ∷ 2 ∷ 0 ∷ 0 ∷ 0 ∷ 0 ∷ []
+
+-- a box with a rule that is always ready, before such a rule
+unfoldable first-ready : List ℕ
+unfolding by-zero
+first-ready = 2 ∷ 0 ∷ 3 ∷ 0 ∷ 0 ∷ 0 ∷ 3 ∷ 0 ∷ 7 ∷ 0 ∷ 0 ∷ 1 ∷ 0 ∷ 0 ∷ 0 ∷ 1 ∷ drop 6 by-zero
+
+-- a box without rules, then two such boxes
+unfoldable two-by-zero : List ℕ
+unfolding by-zero
+two-by-zero = 2 ∷ 0 ∷ 3 ∷ 0 ∷ 0 ∷ 0 ∷ (by-zero ++ by-zero)
 
 -- ── what a row shows ─────────────────────────────────────────────────────────────────────────
 
@@ -100,7 +110,7 @@ calc o t a b = worked (o ∷ (lit t a ++ lit t b))
 -- ── P1 to P12 ────────────────────────────────────────────────────────────────────────────────
 
 unfoldable table : List Row
-unfolding inc three loop swap start history ran signed unsigned lit worked calc opened
+unfolding inc three loop swap by-zero first-ready start history ran signed unsigned lit worked calc opened
 table =
     -- P1, INC marks 2, 1, 6, 1, 6, 1, 4 in cycles 1 to 7; then nothing
     record { shown = sets (history (inc 1) three 8 (start (inc 1) three 56)); stated = sets (map marks (2 ∷ 1 ∷ 6 ∷ 1 ∷ 6 ∷ 1 ∷ 4 ∷ 0 ∷ [])) }
@@ -134,6 +144,8 @@ table =
     ∷ record { shown = prints (printed (inc 1) three); stated = prints (111 ∷ 117 ∷ 116 ∷ 99 ∷ 111 ∷ 109 ∷ 101 ∷ 32 ∷ 105 ∷ 100 ∷ 108 ∷ 101 ∷ 32 ∷ 99 ∷ 121 ∷ 99 ∷ 108 ∷ 101 ∷ 115 ∷ 32 ∷ 55 ∷ 10 ∷ 111 ∷ 117 ∷ 116 ∷ 32 ∷ 48 ∷ 58 ∷ 32 ∷ 50 ∷ 32 ∷ 51 ∷ 32 ∷ 45 ∷ 49 ∷ 50 ∷ 56 ∷ 10 ∷ []) }
     -- all actions use the variables' values from before the firing
     ∷ record { shown = prints (printed swap []); stated = prints (111 ∷ 117 ∷ 116 ∷ 99 ∷ 111 ∷ 109 ∷ 101 ∷ 32 ∷ 105 ∷ 100 ∷ 108 ∷ 101 ∷ 32 ∷ 99 ∷ 121 ∷ 99 ∷ 108 ∷ 101 ∷ 115 ∷ 32 ∷ 57 ∷ 10 ∷ 111 ∷ 117 ∷ 116 ∷ 32 ∷ 48 ∷ 58 ∷ 32 ∷ 49 ∷ 32 ∷ 50 ∷ 32 ∷ 49 ∷ 32 ∷ 50 ∷ 10 ∷ []) }
+    -- the first rule that is ready is chosen, and no guard behind it is worked out
+    ∷ record { shown = answers (ran first-ready [] 0 3); stated = answers (spent 3) }
     ∷ []
 
 -- the one statement: every row shows what the workbook writes
@@ -144,7 +156,7 @@ workbook = refl
 -- ── a smallest argument for each refusal number, with its place ──────────────────────────────
 
 unfoldable refusals : List Row
-unfolding inc through none-for-one by-zero start opened
+unfolding inc through none-for-one by-zero two-by-zero start opened
 refusals =
     -- 1, a field cut short
     record { shown = answers (checkCall (1 ∷ [])); stated = answers (refused 1 0 0) }
@@ -167,6 +179,8 @@ refusals =
     ∷ record { shown = answers ((cycleCall [] [] [] (0 ∷ [])) .answer); stated = answers (refused 8 0 0) }
     -- 9, a zero divisor in a guard
     ∷ record { shown = answers ((runCall by-zero [] [] 1000) .answer); stated = answers (refused 9 0 0) }
+    -- and where boxes 1 and 2 both meet one, the lowest of them is named
+    ∷ record { shown = answers ((runCall two-by-zero [] [] 1000) .answer); stated = answers (refused 9 1 0) }
     ∷ []
 
 refusal-examples : map (λ (r : Row). r .shown) refusals ≡ map (λ (r : Row). r .stated) refusals

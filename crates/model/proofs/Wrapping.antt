@@ -108,5 +108,5 @@ mag-between (negsuc n) l = rw (le-leb n 2147483647 (omega arith))
 
 -- a four-byte value is written and read back
 pub value-bytes : (z : ℤ) → mag z < 2147483648 → valueAt (valueBytes z) 0 ≡ z
-unfolding valueAt valueBytes signedOf
-value-bytes z h = rw (four-bytes (modZ z 4294967296) (modZ-lt z 4294967296 (lit< tt))) (signed-back z 2147483648 4294967296 (lit< tt) (omega arith) (mag-between z h))
+value-bytes z h = unfold valueAt valueBytes signedOf in
+    rw (four-bytes (modZ z 4294967296) (modZ-lt z 4294967296 (lit< tt))) (signed-back z 2147483648 4294967296 (lit< tt) (omega arith) (mag-between z h))

@@ -3,14 +3,13 @@ use Prim.Native.Nat.{ℕ, suc, _+_, _≤_, _<_}
 use mathlib.Core.Path.{_≡_, refl, ap, _∙_, sym}
 use mathlib.Core.List.{List, [], _∷_, _++_, map, append-assoc}
 use mathlib.Core.Bool.{Bool, true, false, _&&_}
-use lib.ListN.{length, getD, drop, replicate}
+use lib.ListN.{length, getD, drop, replicate, length-map}
 use lib.Dec.{eqb}
 use native.Mathlib.Omega.{arith}
 use Rattle.model.specs.Bytes.{stretch}
 use Rattle.model.specs.Network.{Proc, box, insOf, outsOf}
 use Rattle.model.specs.NetworkFile.{Index, tabulate, bodyAt, boxOf, wireOf, wiresOf, boxAt, inputAt, outputAt, netOf, count, ports, portsFit, lowestFrom, oddWire}
 use Rattle.shapes.specs.Shapes.{BoxFits}
-use Rattle.shapes.proofs.Laws.{length-map}
 use Rattle.table.specs.declared.Counts.{Counts}
 use Rattle.table.specs.Table.{region, indexIn, Within}
 use Rattle.model.proofs.Accepted.{Valid}
@@ -82,7 +81,7 @@ module _ (s t : List ℕ) (c : Counts) (w : Within c) (room : 656 ≤ length t) 
   unfolding oddWire portsFit fitsIn indexIn netOf wiresOf
   odd-is r0 rs w0 ws a b d e =
       let x = indexIn t c in
-      let n : length (map (wireOf s) (region 0 (c .wires) t)) ≡ c .wires = length-map (wireOf s) (region 0 (c .wires) t) ∙ region-length 0 (c .wires) t (omega arith) in
+      let n : length (map (wireOf s) (region 0 (c .wires) t)) ≡ c .wires = length-map (region 0 (c .wires) t) (wireOf s) ∙ region-length 0 (c .wires) t (omega arith) in
       lowest-same (fitsIn rs ws) (portsFit (netOf s x [] .procs)) 0 (c .wires) 64 (λ k h. λ i. counts-of r0 rs _ _ _ a b (readers s x) k h i && counts-of w0 ws _ _ _ d e (writers s x) k h i) (omega arith)
       ∙ ap (lowestFrom (portsFit (netOf s x [] .procs)) 0) (sym n)
 

@@ -5,7 +5,7 @@ use mathlib.Core.Bool.{Bool, true, false}
 use mathlib.Core.List.{List, [], _∷_, map}
 use native.Mathlib.Omega.{arith}
 use lib.Dec.{ltb}
-use lib.ListN.{length, getD, take, drop, set, length-take, length-drop, length-set, List·getD-eq-default}
+use lib.ListN.{length, getD, take, drop, set, length-map, length-take, length-drop, length-set, List·getD-eq-default}
 use lib.Seq.{getD-take, getD-set-same, getD-set-other}
 use borrow.Author.Tests.{ltb-true, ltb-false}
 use Rattle.model.specs.declared.Ty.{Ty}
@@ -15,24 +15,15 @@ use Rattle.model.specs.Expressions.{typeAt}
 use Rattle.model.specs.Rules.{Shape}
 use Rattle.model.specs.Network.{Wire, Variable, noWire, wireTypes, variableTypes, shapeOf}
 use Rattle.model.specs.NetworkFile.{tabulate, variableStart, variableOf, bodyAt, wireOf, boxOf}
+use Rattle.model.proofs.Decoded.{getD-map-lt, length-tabulate}
 use Rattle.shapes.specs.declared.Arity.{Arity}
 use Rattle.shapes.specs.Shapes.{Lays, typesIn, shapeIn, wiresIn, typeIn, BodyFits, BoxFits}
-
--- element k of a mapped list
-pub getD-map : {A B : Type 0} (f : A → B) (l : List A) (k : ℕ) (a : A) (b : B) → k < length l → getD (map f l) k b ≡ f (getD l k a)
-getD-map f [] k a b h = absurd (omega arith)
-getD-map f (x ∷ l) zero a b h = refl
-getD-map f (x ∷ l) (suc k) a b h = getD-map f l k a b (omega arith)
-
-pub length-map : {A B : Type 0} (f : A → B) (l : List A) → length (map f l) ≡ length l
-length-map f [] = refl
-length-map f (x ∷ l) = ap suc (length-map f l)
 
 module _ (s t : List ℕ) (wires w : ℕ) where
   pub type-none : wires ≤ w → record { kind = 255; p = 0 } ≡ typeIn s t wires w
   unfolding typeIn wiresIn noWire noType
   type-none h =
-      let l = length-map (wireOf s) (take wires t) in
+      let l = length-map (take wires t) (wireOf s) in
       let g : length (map (wireOf s) (take wires t)) ≤ w = rw l (simp length-take (omega arith)) in
       ap (λ (v : Wire). v .ty) (sym (List·getD-eq-default (map (wireOf s) (take wires t)) noWire g))
 
@@ -43,7 +34,7 @@ module _ (s t : List ℕ) (wires w : ℕ) where
       let m : o + 4 ≡ o + 3 + 1 = omega arith in
       (λ i. record { kind = a i; p = (b ∙ ap (λ (k : ℕ). getD s k 0) m) i })
       ∙ ap (λ (k : ℕ). typeAt s (k + 3)) (e ∙ sym (getD-take wires t w 0 h))
-      ∙ ap (λ (v : Wire). v .ty) (sym (getD-map (wireOf s) (take wires t) w 0 noWire l))
+      ∙ ap (λ (v : Wire). v .ty) (sym (getD-map-lt (wireOf s) (take wires t) w 0 noWire l))
 
 -- the elements of a tabulated list
 pub tabulate-same : {A : Type 0} (n : ℕ) (f g : ℕ → A) → ((k : ℕ) → k < n → f k ≡ g k) → tabulate n f ≡ tabulate n g
@@ -144,11 +135,6 @@ unfolding bodyAt
 body-is s b o len e d = rw (← e) d
 
 -- a shape's counts are those of its box, 4 at most
-pub length-tabulate : {A : Type 0} (n : ℕ) (f : ℕ → A) → length (tabulate n f) ≡ n
-unfolding tabulate
-length-tabulate zero f = refl
-length-tabulate (suc n) f = ap suc (length-tabulate n (λ k. f (suc k)))
-
 length-wires : (ws : List Wire) (ps : List ℕ) → length (wireTypes ws ps) ≡ length ps
 unfolding wireTypes
 length-wires ws [] = refl

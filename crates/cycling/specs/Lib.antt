@@ -1,0 +1,2 @@
+-- What the contracts of cycling cite beside the model.
+pub mod Cycling
