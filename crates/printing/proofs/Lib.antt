@@ -1,0 +1,4 @@
+-- Laws of the printed text.
+pub mod Pages
+pub mod Numbers
+pub mod Lines

@@ -1,0 +1,74 @@
+use mathlib.Core.Path.{sym, ap}
+use Rattle.model.specs.Printing.{endingWord}
+use Rattle.printing.proofs.Pages.{as-said}
+use borrow.Author.Needs.{needs}
+use Rattle.printing.proofs.put_word.Statement.{statement}
+use Rattle.printing.proofs.put_word.Tie as tie
+
+enum-told : tie.Need-enum-told
+enum-told c = search needs
+
+slice-aggregate-put-text : tie.Need-slice-aggregate-put-text
+slice-aggregate-put-text c = search needs
+
+put-text-requires : tie.Need-put-text-requires
+put-text-requires c κs = search needs
+
+enum-told-2 : tie.Need-enum-told-2
+enum-told-2 c = search needs
+
+slice-aggregate-put-text-2 : tie.Need-slice-aggregate-put-text-2
+slice-aggregate-put-text-2 c = search needs
+
+put-text-requires-2 : tie.Need-put-text-requires-2
+put-text-requires-2 c κs = search needs
+
+enum-told-3 : tie.Need-enum-told-3
+enum-told-3 c = search needs
+
+slice-aggregate-put-text-3 : tie.Need-slice-aggregate-put-text-3
+slice-aggregate-put-text-3 c = search needs
+
+put-text-requires-3 : tie.Need-put-text-requires-3
+put-text-requires-3 c κs = search needs
+
+same-length : tie.Need-same-length
+same-length c = search needs
+
+returns : tie.Need-returns
+unfolding endingWord
+returns c = as-said _ (sym (ap endingWord (c .before .before .before .before .before .enum-told .given .1))) (c .before .before .put-text .ensures)
+
+same-length-2 : tie.Need-same-length-2
+same-length-2 c = search needs
+
+returns-2 : tie.Need-returns-2
+unfolding endingWord
+returns-2 c = as-said _ (sym (ap endingWord (c .before .before .before .before .before .enum-told2 .given .1))) (c .before .before .put-text2 .ensures)
+
+same-length-3 : tie.Need-same-length-3
+same-length-3 c = search needs
+
+returns-3 : tie.Need-returns-3
+unfolding endingWord
+returns-3 c = as-said _ (sym (ap endingWord (c .before .before .before .before .before .enum-told3 .given .1))) (c .before .before .put-text3 .ensures)
+
+pub put-word-spec : {M : Type 1} → statement M
+put-word-spec =
+    tie.close
+    (tie.spec
+    enum-told
+    slice-aggregate-put-text
+    put-text-requires
+    enum-told-2
+    slice-aggregate-put-text-2
+    put-text-requires-2
+    enum-told-3
+    slice-aggregate-put-text-3
+    put-text-requires-3
+    same-length
+    returns
+    same-length-2
+    returns-2
+    same-length-3
+    returns-3)

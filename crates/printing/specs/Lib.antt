@@ -1,0 +1,3 @@
+-- What the contracts of printing cite beside the model.
+pub mod Pages
+pub mod Lines
