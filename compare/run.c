@@ -1,5 +1,11 @@
-/* The run program by the reference: reads network.bin and tokens.bin of the current folder and prints the run. */
+/* The run program by the reference, or, built with LIBRARY, by the library: reads network.bin and tokens.bin of the current folder and prints the run. */
 #include "reference.h"
+#ifdef LIBRARY
+#include "library.h"
+#define PRINTED library_print_run
+#else
+#define PRINTED reference_print_run
+#endif
 
 #include <stdio.h>
 #include <stdlib.h>
@@ -22,7 +28,7 @@ int main(void)
     static uint8_t network[MOST], tokens[MOST];
     struct input_bytes first = {network, read_file("network.bin", network)};
     struct input_bytes second = {tokens, read_file("tokens.bin", tokens)};
-    char *text = reference_print_run(first, second);
+    char *text = PRINTED(first, second);
     if (text == NULL)
         return 1;
     fputs(text, stdout);

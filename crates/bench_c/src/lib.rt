@@ -79,6 +79,7 @@ fn refuse(x: Refusal) -> Numbers
     }
 }
 
+// A check: accepted or refused.
 fn of_check(a: CheckAnswer) -> Numbers
     ensures { λ r. ⌜ r ≡ numbersOf (saidCheck a) ⌝ }
 {
@@ -88,6 +89,7 @@ fn of_check(a: CheckAnswer) -> Numbers
     }
 }
 
+// A load: the state's size.
 fn of_load(a: LoadAnswer) -> Numbers
     ensures { λ r. ⌜ r ≡ numbersOf (saidLoad a) ⌝ }
 {
@@ -97,6 +99,7 @@ fn of_load(a: LoadAnswer) -> Numbers
     }
 }
 
+// A marking: the set; the rule numbers are laid apart.
 fn of_mark(a: MarkAnswer) -> Numbers
     ensures { λ r. ⌜ r ≡ numbersOf (saidMark a) ⌝ }
 {
@@ -106,6 +109,7 @@ fn of_mark(a: MarkAnswer) -> Numbers
     }
 }
 
+// A single cycle: 1 or 0 cycles.
 fn of_cycle(a: CycleAnswer) -> Numbers
     ensures { λ r. ⌜ r ≡ numbersOf (saidCycle a) ⌝ }
 {
@@ -133,6 +137,7 @@ fn of_ending(e: Ending, cycles: u64) -> Numbers
     }
 }
 
+// A run: how it ended, or a refusal before it.
 fn of_run(a: RunAnswer) -> Numbers
     ensures { λ r. ⌜ r ≡ numbersOf (saidRun a) ⌝ }
 {
@@ -142,6 +147,7 @@ fn of_run(a: RunAnswer) -> Numbers
     }
 }
 
+// Writing: the bytes written.
 fn of_write(a: WriteAnswer) -> Numbers
     ensures { λ r. ⌜ r ≡ numbersOf (saidWrite a) ⌝ }
 {
