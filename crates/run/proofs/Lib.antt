@@ -1,0 +1,3 @@
+-- Laws of the run program.
+pub mod Bounds
+pub mod Runs
