@@ -8,6 +8,7 @@ use model::LoadAnswer;
 use model::MarkAnswer;
 use model::ProcessId;
 use model::Refusal;
+use model::RuleId;
 use model::RunAnswer;
 use model::WriteAnswer;
 use table::Counts;
@@ -180,12 +181,11 @@ fn body_in(net: &[u8], table: &[u16], c: Counts, b: u64, r: u64) -> Numbers
     if long(boxes) <= b {
         return stretch(end, 0);
     }
-    let rules = lookup::rules_of(table, boxes, c.rules, ProcessId(b as u8));
+    let rules = lookup::rules_of(net, table, c, ProcessId(b as u8));
     if long(rules) <= r {
         return stretch(end, 0);
     }
-    let first = octets::entry(table, 96 + b as usize);
-    let at = octets::entry(table, 128 + (first + r as usize));
+    let at = lookup::rule_at(net, table, c, ProcessId(b as u8), RuleId(r as u8));
     stretch(at + 3, octets::two_at(net, at + 1))
 }
 

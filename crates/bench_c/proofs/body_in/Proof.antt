@@ -18,8 +18,8 @@ returns c =
     let a = start .args in
     stands (c .stretch .ensures) (no-box (a .net .now) (a .table .now) (a .c) (start .pre) (a .b) (a .r) (omega (arith, c .before .if1 .taken, g .long .ensures)))
 
-cast-t13 : tie.Need-cast-t13
-cast-t13 c = search needs
+cast-t12 : tie.Need-cast-t12
+cast-t12 c = search needs
 
 rules-of-requires : tie.Need-rules-of-requires
 rules-of-requires c κs = search needs
@@ -39,30 +39,20 @@ returns-2 c =
     (no-rule (a .net .now) (a .table .now) (a .c) (start .pre) (a .b) (a .r) (omega (arith, e .if1 .left, e .before .long .ensures))
     (omega (arith, c .before .if2 .taken, c .before .before .long2 .ensures, c .before .before .before .rules-of .ensures)))
 
-add-entry : tie.Need-add-entry
-add-entry c = search needs
+cast-t12-2 : tie.Need-cast-t12-2
+cast-t12-2 c = search needs
 
-entry-requires : tie.Need-entry-requires
-entry-requires c κs = search needs
-
-add-entry-2 : tie.Need-add-entry-2
-add-entry-2 c =
-    let k = c .before .before in
+-- a rule's number fits a byte
+cast-t14 : tie.Need-cast-t14
+cast-t14 c =
+    let k = c .before in
     let e = k .before .before in
     let start = e .before .before .before .before in
     let a = start .args in
-    omega (arith, few-rules (a .net .now) (a .table .now) (a .c) (start .pre) (a .b) (omega (arith, e .if1 .left, e .before .long .ensures)), c .before .if2 .left, k .long2 .ensures, k .before .rules-of .ensures, c .entry .ensures .1)
+    omega (arith, few-rules (a .net .now) (a .table .now) (a .c) (start .pre) (a .b) (omega (arith, e .if1 .left, e .before .long .ensures)), c .if2 .left, k .long2 .ensures, k .before .rules-of .ensures)
 
-add-entry-3 : tie.Need-add-entry-3
-add-entry-3 c =
-    let k = c .before .before in
-    let e = k .before .before in
-    let start = e .before .before .before .before in
-    let a = start .args in
-    omega (arith, few-rules (a .net .now) (a .table .now) (a .c) (start .pre) (a .b) (omega (arith, e .if1 .left, e .before .long .ensures)), c .before .if2 .left, k .long2 .ensures, k .before .rules-of .ensures, c .entry .ensures .1)
-
-entry-requires-2 : tie.Need-entry-requires-2
-entry-requires-2 c κs = search needs
+rule-at-requires : tie.Need-rule-at-requires
+rule-at-requires c κs = search needs
 
 add-stretch : tie.Need-add-stretch
 add-stretch c = search needs
@@ -79,35 +69,17 @@ stretch-requires-3 c κs = search needs
 returns-3 : tie.Need-returns-3
 returns-3 c =
     let w = c .before in
-    let i = w .before .before .before in
+    let i = w .before .before in
     let k = i .before in
     let e = k .before .before in
     let start = e .before .before .before .before in
     let a = start .args in
     stands (c .stretch3 .ensures)
-    (known-at (a .net .now) (a .table .now) (a .c) (start .pre) (a .b) (omega (arith, e .if1 .left, e .before .long .ensures)) (a .r) _ _ _
-    (omega (arith, i .if2 .left, k .long2 .ensures, k .before .rules-of .ensures))
-    (w .before .before .entry .ensures .0) (w .before .entry2 .ensures .0) (w .two-at .ensures .0))
+    (known-at (a .net .now) (a .table .now) (a .c) (start .pre) (a .b) (omega (arith, e .if1 .left, e .before .long .ensures)) (a .r) _ _
+    (omega (arith, i .if2 .left, k .long2 .ensures, k .before .rules-of .ensures)) (w .before .rule-at .ensures .0) (w .two-at .ensures .0))
 
 pub body-in-spec : {M : Type 1} → statement M
 body-in-spec =
     tie.close
-    (tie.spec
-    long-requires
-    stretch-requires
-    returns
-    cast-t13
-    rules-of-requires
-    long-requires-2
-    stretch-requires-2
-    returns-2
-    add-entry
-    entry-requires
-    add-entry-2
-    add-entry-3
-    entry-requires-2
-    add-stretch
-    add-two-at
-    two-at-requires
-    stretch-requires-3
-    returns-3)
+    (tie.spec long-requires stretch-requires returns cast-t12 rules-of-requires long-requires-2 stretch-requires-2 returns-2 cast-t12-2 cast-t14 rule-at-requires add-stretch add-two-at two-at-requires
+    stretch-requires-3 returns-3)

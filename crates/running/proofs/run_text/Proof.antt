@@ -1,8 +1,8 @@
 use borrow.Author.Needs.{needs}
 use Rattle.printing.proofs.Pages.{then, as-said}
-use Rattle.run.proofs.Runs.{text-is, Answers, refused-text, says-ended}
-use Rattle.run.proofs.run_text.Statement.{statement}
-use Rattle.run.proofs.run_text.Tie as tie
+use Rattle.running.proofs.Runs.{text-is, Answers, refused-text, says-ended}
+use Rattle.running.proofs.run_text.Statement.{statement}
+use Rattle.running.proofs.run_text.Tie as tie
 
 load-requires : tie.Need-load-requires
 load-requires c κs = search needs

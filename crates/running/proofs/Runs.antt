@@ -30,8 +30,8 @@ use Rattle.printing.specs.Lines.{linesIn}
 use Rattle.printing.specs.Pages.{Page, page, laidOne, laid}
 use Rattle.bench.specs.Afters.{after, begun, begins}
 use Rattle.bench.proofs.Tight.{run-one}
-use Rattle.run.specs.Texts.{refusalOf, Printed}
-use Rattle.run.proofs.Bounds.{refused-most, outcome-most, state-lines-most}
+use Rattle.running.specs.Texts.{refusalOf, Printed}
+use Rattle.running.proofs.Bounds.{refused-most, outcome-most, state-lines-most}
 
 -- ── a run ends in a state that is reached from the load ──────────────────────────────────────
 

@@ -1,8 +1,8 @@
 use borrow.Author.Needs.{needs}
 use mathlib.Core.Path.{sym, ap}
-use Rattle.run.specs.Texts.{refusalOf}
-use Rattle.run.proofs.refusal_of.Statement.{statement}
-use Rattle.run.proofs.refusal_of.Tie as tie
+use Rattle.running.specs.Texts.{refusalOf}
+use Rattle.running.proofs.refusal_of.Statement.{statement}
+use Rattle.running.proofs.refusal_of.Tie as tie
 
 enum-known-answer : tie.Need-enum-known-answer
 enum-known-answer c = search needs

@@ -1,2 +1,0 @@
--- What the contracts of the run program cite beside the model.
-pub mod Texts

@@ -1,0 +1,2 @@
+-- What the contracts of the run text cite beside the model.
+pub mod Texts
