@@ -63,7 +63,7 @@ pub fn load(net: &[u8], tokens: &[u8], state: &mut [u8]) -> LoadAnswer
     ensures { λ r. ⌜ after (saidLoad r) (now (state .exit)) ≡ loadCall (now (net .entry)) (now (tokens .entry)) (now (state .entry)) ⌝ }
 {
     let mut table = [0u16; 656];
-    let mut starts = [0u16; 112];
+    let mut starts = [0u16; 113];
     let mut fields = [0u16; 8];
     match opening::open_files(net, tokens, &mut table, &mut starts, &mut fields) {
         Opened::Refused { refusal } => LoadAnswer::Refused { refusal },
@@ -101,7 +101,7 @@ pub fn mark(net: &[u8], tokens: &[u8], state: &[u8]) -> Marked
     ensures { λ r. ⌜ markedAs r ≡ markCall (now (net .entry)) (now (tokens .entry)) (now (state .entry)) ⌝ }
 {
     let mut table = [0u16; 656];
-    let mut starts = [0u16; 112];
+    let mut starts = [0u16; 113];
     let mut fields = [0u16; 8];
     match opening::open_state(net, tokens, &mut table, &mut starts, &mut fields, state) {
         Opened::Refused { refusal } => Marked {
@@ -119,7 +119,7 @@ pub fn cycle(net: &[u8], tokens: &[u8], state: &mut [u8], order: &[u8]) -> Cycle
     ensures { λ r. ⌜ after (saidCycle r) (now (state .exit)) ≡ cycleCall (now (net .entry)) (now (tokens .entry)) (now (state .entry)) (now (order .entry)) ⌝ }
 {
     let mut table = [0u16; 656];
-    let mut starts = [0u16; 112];
+    let mut starts = [0u16; 113];
     let mut fields = [0u16; 8];
     match opening::open_state(net, tokens, &mut table, &mut starts, &mut fields, state) {
         Opened::Refused { refusal } => CycleAnswer::Refused { refusal },
@@ -142,7 +142,7 @@ pub fn run(net: &[u8], tokens: &[u8], state: &mut [u8], budget: u32) -> RunAnswe
         };
     }
     let mut table = [0u16; 656];
-    let mut starts = [0u16; 112];
+    let mut starts = [0u16; 113];
     let mut fields = [0u16; 8];
     match opening::open_state(net, tokens, &mut table, &mut starts, &mut fields, state) {
         Opened::Refused { refusal } => RunAnswer::Refused { refusal },
@@ -188,7 +188,7 @@ pub fn write_outputs(net: &[u8], state: &[u8], out: &mut [u8]) -> WriteAnswer
     ensures { λ r. ⌜ after (saidWrite r) (now (out .exit)) ≡ writeCall (now (net .entry)) (now (state .entry)) (now (out .entry)) ⌝ }
 {
     let mut table = [0u16; 656];
-    let mut starts = [0u16; 112];
+    let mut starts = [0u16; 113];
     match opening::open_network(net, &mut table, &mut starts) {
         Opened::Refused { refusal } => WriteAnswer::Refused { refusal },
         Opened::Good { counts, size } => write_in(net, &table, counts, &starts, size, state, out),

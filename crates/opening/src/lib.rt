@@ -18,7 +18,7 @@ pub enum Opened {
 // The network file: its check, its table, and where each part of a state begins.
 pub fn open_network(net: &[u8], table: &mut [u16], starts: &mut [u16]) -> Opened
     requires { ⌜ 656 ≤ length (now table) ⌝ }
-    requires { ⌜ 112 ≤ length (now starts) ⌝ }
+    requires { ⌜ 113 ≤ length (now starts) ⌝ }
     ensures { λ r. ⌜ NetworkOpened (now (net .entry)) (now (table .exit)) (now (starts .exit)) r ⌝ }
 {
     match network::checked(net, table) {
@@ -41,7 +41,7 @@ pub fn open_files(
     fields: &mut [u16],
 ) -> Opened
     requires { ⌜ 656 ≤ length (now table) ⌝ }
-    requires { ⌜ 112 ≤ length (now starts) ⌝ }
+    requires { ⌜ 113 ≤ length (now starts) ⌝ }
     requires { ⌜ 8 ≤ length (now fields) ⌝ }
     ensures { λ r. ⌜ FilesOpened (now (net .entry)) (now (tokens .entry)) (now (table .exit)) (now (starts .exit)) (now (fields .exit)) r ⌝ }
 {
@@ -102,7 +102,7 @@ pub fn open_state(
     state: &[u8],
 ) -> Opened
     requires { ⌜ 656 ≤ length (now table) ⌝ }
-    requires { ⌜ 112 ≤ length (now starts) ⌝ }
+    requires { ⌜ 113 ≤ length (now starts) ⌝ }
     requires { ⌜ 8 ≤ length (now fields) ⌝ }
     ensures { λ r. ⌜ StateOpened (now (net .entry)) (now (tokens .entry)) (now (table .exit)) (now (starts .exit)) (now (fields .exit)) (now (state .entry)) r ⌝ }
 {

@@ -1,11 +1,11 @@
 -- The size of each segment, read off the table.
 -- Assumes nothing.
-use mathlib.Core.Path.{_≡_, refl, sym, ap, _∙_}
+use mathlib.Core.Path.{_≡_, sym, ap, _∙_}
 use mathlib.Core.List.{List, [], _∷_, _++_, map}
 use Prim.Native.Nat.{ℕ, zero, suc, _+_, _-_, _*_, _≤_, _<_}
 use native.Mathlib.Omega.{arith}
 use native.Mathlib.Numerals.{add-one}
-use lib.ListN.{length, getD, take, drop, set, length-append, length-map, List·getD-append}
+use lib.ListN.{length, getD, take, set, length-append, length-map, List·getD-append}
 use lib.Seq.{getD-append-add, take-suc, take-all, take-nil, getD-set-same, getD-set-other}
 use native.Mathlib.Decide.{ℕ-discrete}
 use Rattle.model.specs.Network.{Net, wire, proc, noWire, nobody}
@@ -21,7 +21,7 @@ use Rattle.queues.proofs.Segments.{start-first, start-second}
 use Rattle.lookup.specs.Tabled.{Tabled}
 use Rattle.lookup.specs.Ends.{roomAt}
 use Rattle.lookup.proofs.Tabled.{valid, n-wires, n-boxes, n-inputs, n-outputs, bare-good, input-is, output-is}
-use Rattle.places.specs.Places.{sizesOf, Placed, Placing, Spans, WireSpan, OwnSpan}
+use Rattle.places.specs.Places.{sizesOf, Placed, Between, WireSpan, OwnSpan}
 use Rattle.places.specs.declared.Span.{Span}
 
 -- ── starts ───────────────────────────────────────────────────────────────────────────────────
@@ -123,25 +123,37 @@ so-far-next n p j v q l e = record { each = λ i h. by-place i h (ℕ-discrete i
     by-place i h (yes z) = rw z (getD-set-same p j v 0 l ∙ e)
     by-place i h (no f) = getD-set-other p j i v 0 f ∙ q .each i (omega (arith, h, f))
 
+-- with the end behind the last, all stand there
+pub so-far-all : (n : Net) (p : List ℕ) (j k v : ℕ) → j ≡ length (sizesOf n) → k ≡ j → SoFar n p j → j < length p → v ≡ startOf (sizesOf n) j → Placed n (set p k v)
+so-far-all n p j k v l z q h e = rw z (record { at = λ i g. so-far-next n p j v q h e .each i (omega (arith, g, l)) })
+
 -- ── spans ────────────────────────────────────────────────────────────────────────────────────
 
-module _ (s t : List ℕ) (c : Counts) (h : Tabled s t c) where
+-- segment j lies there
+record Spans (n : Net) (j : ℕ) (r : Span) : Type 0 where
+  start : r .start ≡ startOf (sizesOf n) j
+  end : r .end ≡ r .start + getD (sizesOf n) j 0
+  inside : r .end ≤ stateSize n
+
+module _ (s t p : List ℕ) (c : Counts) (h : Tabled s t c) (placed : Placed (netOf s (indexIn t c) []) p) where
   abbrev m : Net
   m = netOf s (indexIn t c) []
 
-  pub span-is : (p : List ℕ) (j a z : ℕ) → Placed m p → j < c .wires + (c .boxes + c .inputs + c .outputs) → a ≡ getD p j 0 → z ≡ getD (sizesOf m) j 0 → Spans m j (record { start = a; end = a + z })
-  span-is p j a z q l e f =
+  span-is : (j : ℕ) (r : Span) → j < c .wires + (c .boxes + c .inputs + c .outputs) → Between p j r → Spans m j r
+  span-is j r l q =
       let i : j < length (sizesOf m) = omega (arith, sizes-length s t c h) in
-      let b : a ≡ startOf (sizesOf m) j = e ∙ q .at j i in
+      let a : r .start ≡ startOf (sizesOf m) j = q .start ∙ placed .at j (omega (arith, i)) in
+      let z : r .end ≡ startOf (sizesOf m) (j + 1) = q .end ∙ placed .at (j + 1) (omega (arith, i)) in
       record {
-        start = b;
-        end = ap (λ (k : ℕ). a + k) f;
-        inside = omega (arith, b, f, start-next (sizesOf m) j i, start-most (sizesOf m) (j + 1), sizes-sum s t c h);
+        start = a;
+        end = omega (arith, a, z, start-next (sizesOf m) j i);
+        inside = omega (arith, z, start-most (sizesOf m) (j + 1), sizes-sum s t c h);
       }
 
-  pub wire-span-is : (w j : ℕ) (r : Span) → w < c .wires → j ≡ w → Spans m j r → WireSpan m w r
+  pub wire-span-is : (w j : ℕ) (r : Span) → w < c .wires → j ≡ w → Between p j r → WireSpan m w r
   unfolding wireStart sizesOf wire
-  wire-span-is w j r l e q =
+  wire-span-is w j r l e b =
+      let q = span-is j r (omega (arith, e, l)) b in
       let sizes = map wireSize (m .wires) in
       let long : length sizes ≡ c .wires = length-map (m .wires) wireSize ∙ wires-n s t c h in
       record {
@@ -150,9 +162,10 @@ module _ (s t : List ℕ) (c : Counts) (h : Tabled s t c) where
         inside = q .inside;
       }
 
-  pub own-span-is : (k j : ℕ) (r : Span) → k < c .boxes + c .inputs + c .outputs → j ≡ c .wires + k → Spans m j r → OwnSpan m k r
+  pub own-span-is : (k j : ℕ) (r : Span) → k < c .boxes + c .inputs + c .outputs → j ≡ c .wires + k → Between p j r → OwnSpan m k r
   unfolding ownStart sizesOf wiresSize
-  own-span-is k j r l e q =
+  own-span-is k j r l e b =
+      let q = span-is j r (omega (arith, e, l)) b in
       let sizes = map wireSize (m .wires) in
       let long : c .wires ≡ length sizes = sym (length-map (m .wires) wireSize ∙ wires-n s t c h) in
       let f : j ≡ length sizes + k = e ∙ ap (λ (i : ℕ). i + k) long in

@@ -9,10 +9,10 @@ ghost use lib.ListN.{length, getD};
 ghost use Rattle.model.specs.NetworkFile.{netOf};
 ghost use Rattle.table.specs.Table.{indexIn};
 ghost use Rattle.lookup.specs.Tabled.{Tabled};
-ghost use Rattle.places.specs.Places.{sizesOf, Placed, Placing, Spans, WireSpan, OwnSpan};
+ghost use Rattle.places.specs.Places.{sizesOf, Placed, Placing, Between, WireSpan, OwnSpan};
 
 // The bytes of segment j: wires first, then boxes, inputs and outputs.
-pub fn segment_size(net: &[u8], table: &[u16], c: Counts, j: usize) -> usize
+fn segment_size(net: &[u8], table: &[u16], c: Counts, j: usize) -> usize
     requires { ⌜ Tabled (now net) (now table) c ⌝ }
     requires { ⌜ j < c .wires + (c .boxes + c .inputs + c .outputs) ⌝ }
     ensures { λ r. ⌜ r ≡ getD (sizesOf (netOf (now (net .entry)) (indexIn (now (table .entry)) c) [])) j 0 ⌝ }
@@ -32,10 +32,10 @@ pub fn segment_size(net: &[u8], table: &[u16], c: Counts, j: usize) -> usize
     2 + 5 * lookup::room(net, table, c, ProcessId(k as u8))
 }
 
-// Each segment's start, and the size of all.
+// Each segment's start, then the end of the last, and the size of all.
 pub fn places(net: &[u8], table: &[u16], c: Counts, starts: &mut [u16]) -> usize
     requires { ⌜ Tabled (now net) (now table) c ⌝ }
-    requires { ⌜ 112 ≤ length (now starts) ⌝ }
+    requires { ⌜ 113 ≤ length (now starts) ⌝ }
     ensures { λ r. ⌜ Placing (netOf (now (net .entry)) (indexIn (now (table .entry)) c) []) (now (starts .exit)) r ⌝ }
 {
     let total = c.wires + (c.boxes + c.inputs + c.outputs);
@@ -46,6 +46,7 @@ pub fn places(net: &[u8], table: &[u16], c: Counts, starts: &mut [u16]) -> usize
         at += segment_size(net, table, c, j);
         j += 1;
     }
+    starts[total] = at as u16;
     at
 }
 
@@ -55,19 +56,14 @@ pub struct Span {
     pub end: usize,
 }
 
-// Where segment j lies.
-fn segment_span(net: &[u8], table: &[u16], c: Counts, starts: &[u16], j: usize) -> Span
-    requires { ⌜ Tabled (now net) (now table) c ⌝ }
-    requires { ⌜ Placed (netOf (now net) (indexIn (now table) c) []) (now starts) ⌝ }
-    requires { ⌜ j < c .wires + (c .boxes + c .inputs + c .outputs) ⌝ }
-    ensures { λ r. ⌜ Spans (netOf (now (net .entry)) (indexIn (now (table .entry)) c) []) j r ⌝ }
+// Where segment j lies: it ends where the next begins.
+fn segment_span(starts: &[u16], j: usize) -> Span
+    requires { ⌜ j < 65536 ⌝ }
+    ensures { λ r. ⌜ Between (now (starts .entry)) j r ⌝ }
 {
     let start = octets::entry(starts, j);
-    let size = segment_size(net, table, c, j);
-    Span {
-        start,
-        end: start + size,
-    }
+    let end = octets::entry(starts, j + 1);
+    Span { start, end }
 }
 
 // Where the bytes of a wire lie.
@@ -77,7 +73,7 @@ pub fn wire_span(net: &[u8], table: &[u16], c: Counts, starts: &[u16], w: WireId
     requires { ⌜ w .0 < c .wires ⌝ }
     ensures { λ r. ⌜ WireSpan (netOf (now (net .entry)) (indexIn (now (table .entry)) c) []) (w .0) r ⌝ }
 {
-    segment_span(net, table, c, starts, octets::wide(w.0))
+    segment_span(starts, octets::wide(w.0))
 }
 
 // Where the bytes of a process lie.
@@ -88,5 +84,5 @@ pub fn own_span(net: &[u8], table: &[u16], c: Counts, starts: &[u16], k: Process
     ensures { λ r. ⌜ OwnSpan (netOf (now (net .entry)) (indexIn (now (table .entry)) c) []) (k .0) r ⌝ }
 {
     let wires = c.wires;
-    segment_span(net, table, c, starts, wires + octets::wide(k.0))
+    segment_span(starts, wires + octets::wide(k.0))
 }

@@ -193,7 +193,7 @@ pub fn state_lines(net: &[u8], tokens: &[u8], state: &[u8], buf: &mut [u8], at: 
     ensures { λ r. ⌜ page r (now (buf .exit)) ≡ laid (linesIn (now (net .entry)) (now (tokens .entry)) (now (state .entry))) (page at (now (buf .entry))) ⌝ }
 {
     let mut table = [0u16; 656];
-    let mut starts = [0u16; 112];
+    let mut starts = [0u16; 113];
     let mut fields = [0u16; 8];
     match opening::open_state(net, tokens, &mut table, &mut starts, &mut fields, state) {
         Opened::Refused { refusal: _ } => at,

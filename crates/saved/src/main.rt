@@ -69,7 +69,7 @@ fn print_write(net: &[u8], state: &[u8], out: &mut [u8]) {
 // Whether a saved state is taken, with its files.
 fn print_held(net: &[u8], tokens: &[u8], state: &[u8]) {
     let mut table = [0u16; 656];
-    let mut starts = [0u16; 112];
+    let mut starts = [0u16; 113];
     let mut fields = [0u16; 8];
     match opening::open_state(net, tokens, &mut table, &mut starts, &mut fields, state) {
         Opened::Good { .. } => {

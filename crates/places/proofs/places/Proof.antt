@@ -9,7 +9,7 @@ use Rattle.table.specs.Table.{indexIn}
 use Rattle.model.specs.States.{sum}
 use Rattle.queues.specs.Segments.{startOf}
 use Rattle.places.specs.Places.{sizesOf}
-use Rattle.places.proofs.Laws.{SoFar, so-far-next, start-next, start-all, start-most, sizes-length, sizes-sum, sizes-most}
+use Rattle.places.proofs.Laws.{SoFar, so-far-next, so-far-all, start-next, start-all, start-most, sizes-length, sizes-sum, sizes-most}
 use Rattle.places.proofs.places.Statement.{statement}
 use Rattle.places.proofs.places.Tie as tie
 use Rattle.places.proofs.places.Reads as reads
@@ -76,18 +76,29 @@ loop-again c =
     ap₂ (λ (a b : ℕ). a + b) (l .inv .2) (c .segment-size .ensures) ∙ sym (start-next sizes (l .j) inside) in
     (omega arith, length-set (l .starts) (l .j) _ ∙ l .inv .1, next, so-far-next (netOf (start .args .net .now) (indexIn (start .args .table .now) (start .args .c)) []) (l .starts) (l .j) _ (l .inv .3) (omega (arith, start .pre .0 .within, l .inv .1)) (l .inv .2))
 
+cast-starts-2 : tie.Need-cast-starts-2 Inv-loop μ-loop
+cast-starts-2 c =
+    let start = c .before .before .before .before .before .before .before .before in
+    omega (arith, c .before .loop .inv .2, start-most (sizesOf (netOf (start .args .net .now) (indexIn (start .args .table .now) (start .args .c)) [])) (c .before .loop .j), sizes-most (start .args .net .now) (start .args .table .now) (start .args .c) (start .pre .0))
+
+mul-starts-2 : tie.Need-mul-starts-2 Inv-loop μ-loop
+mul-starts-2 c = omega (arith, c .before .before .before .before .before .before .before .before .pre .0 .within)
+
+slice-write-starts-2 : tie.Need-slice-write-starts-2 Inv-loop μ-loop
+slice-write-starts-2 c = omega (arith, c .before .before .before .before .before .before .before .before .pre .0 .within, c .before .loop .inv .1)
+
 same-length : tie.Need-same-length Inv-loop μ-loop
-same-length c = c .before .loop .inv .1
+same-length c = length-set (c .before .loop .starts) _ _ ∙ c .before .loop .inv .1
 
 returns : tie.Need-returns Inv-loop μ-loop
 returns c =
     let start = c .before .before .before .before .before .before .before .before in
     let l = c .before .loop in
-    let sizes = sizesOf (netOf (start .args .net .now) (indexIn (start .args .table .now) (start .args .c)) []) in
+    let n = netOf (start .args .net .now) (indexIn (start .args .table .now) (start .args .c)) [] in
     let long = sizes-length (start .args .net .now) (start .args .table .now) (start .args .c) (start .pre .0) in
     record {
-      starts = record { at = λ i h. l .inv .3 .each i (omega (arith, h, long)) };
-      size = l .inv .2 ∙ start-all sizes (l .j) (omega (arith, long)) ∙ sizes-sum (start .args .net .now) (start .args .table .now) (start .args .c) (start .pre .0);
+      starts = so-far-all n (l .starts) (l .j) _ (l .at) (omega (arith, long)) (omega arith) (l .inv .3) (omega (arith, start .pre .0 .within, l .inv .1)) (l .inv .2);
+      size = l .inv .2 ∙ start-all (sizesOf n) (l .j) (omega (arith, long)) ∙ sizes-sum (start .args .net .now) (start .args .table .now) (start .args .c) (start .pre .0);
     }
 
 pub places-spec : {M : Type 1} → statement M
@@ -108,5 +119,8 @@ places-spec =
     add-j
     loop-less
     loop-again
+    cast-starts-2
+    mul-starts-2
+    slice-write-starts-2
     same-length
     returns)

@@ -1,3 +1,4 @@
+use native.Mathlib.Omega.{arith}
 use Rattle.places.proofs.Laws.{wire-span-is}
 use borrow.Author.Needs.{needs}
 use Rattle.places.proofs.wire_span.Statement.{statement}
@@ -11,12 +12,12 @@ wide-requires : tie.Need-wide-requires
 wide-requires c κs = search needs
 
 segment-span-requires : tie.Need-segment-span-requires
-segment-span-requires c κs = search needs
+segment-span-requires c κs = omega (arith, c .wide .ensures .1)
 
 returns : tie.Need-returns
 returns c =
     let start = c .before .before .before .before .before in
-    wire-span-is (start .args .net .now) (start .args .table .now) (start .args .c) (start .pre .0) (start .args .w .0) (c .before .wide .result) (c .segment-span .result) (start .pre .1 .1) (c .before .wide .ensures .0) (c .segment-span .ensures)
+    wire-span-is (start .args .net .now) (start .args .table .now) (start .args .starts .now) (start .args .c) (start .pre .0) (start .pre .1 .0) (start .args .w .0) (c .before .wide .result) (c .segment-span .result) (start .pre .1 .1) (c .before .wide .ensures .0) (c .segment-span .ensures)
 
 pub wire-span-spec : {M : Type 1} → statement M
 wire-span-spec = tie.close (tie.spec wide-requires segment-span-requires returns)
