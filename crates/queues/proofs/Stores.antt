@@ -6,8 +6,8 @@ use mathlib.Core.List.{List, [], _∷_, _++_, append-nil}
 use native.Mathlib.Omega.{arith}
 use native.Mathlib.Nat.{not-suc-le-zero, le-of-suc-le-suc, add-sub-cancel-left}
 use native.Mathlib.Numerals.{add-one}
-use lib.ListN.{length, getD, take, drop, set, replicate, length-append, length-drop, length-replicate, drop-of-length-le}
-use lib.Seq.{drop-length, take-all, length-take-le, getD-drop, getD-append-add}
+use lib.ListN.{length, getD, take, drop, set, replicate, length-take, length-drop, drop-of-length-le}
+use lib.Seq.{drop-length, take-all, length-take-le, take-append-seam, drop-append-seam, getD-drop, getD-append-add}
 use lib.IntN.{ℤ, pos}
 use Rattle.model.specs.declared.Token.{Token}
 use Rattle.model.specs.Bytes.{twoAt, fourAt, valueAt, signedOf, twoBytes, valueBytes}
@@ -66,30 +66,14 @@ pop-stores s last n e f =
     ap₂ (λ (l : List ℕ) (j : ℕ). set (putMid 1 j s l) 0 (n - 1)) (f ∙ ap (λ (j : ℕ). moved (mid 1 j s)) k) k
     ∙ ap (λ (j : ℕ). set (putMid 1 (5 * j) s (moved (mid 1 (5 * j) s))) 0 (j - 1)) e
 
-pub length-moved : (s : List ℕ) → 5 ≤ length s → length (moved s) ≡ length s
-unfolding moved
-length-moved s h = simp (length-append, length-drop, length-replicate) (omega arith)
-
--- zeros behind the end cannot be told from the end
-tail-zeros : (l : List ℕ) (n k : ℕ) → getD (l ++ replicate n 0) k 0 ≡ getD l k 0
-tail-zeros [] n k = none n k
-  where
-    none : (n k : ℕ) → _≡_ {A = ℕ} (getD (replicate n 0) k 0) 0
-    none zero k = refl
-    none (suc n) zero = refl
-    none (suc n) (suc k) = none n k
-tail-zeros (x ∷ l) n zero = refl
-tail-zeros (x ∷ l) n (suc k) = tail-zeros l n k
-
 -- what a turn reads, where the first i bytes are done
-pub move-reads : (s r : List ℕ) (i b : ℕ) → 5 ≤ length s → i ≤ length s → r ≡ take i (moved s) ++ drop i s → b ≡ getD r (i + 5) 0 → b ≡ getD (moved s) i 0
-unfolding moved
-move-reads s r i b h g e f =
-    let p : List ℕ = take i (drop 5 s ++ replicate 5 0) in
-    let lp : length p ≡ i = length-take-le i (drop 5 s ++ replicate 5 0) (omega (arith, length-moved s h)) in
+pub move-reads : (s r : List ℕ) (i b : ℕ) → i + 5 ≤ length s → r ≡ take i (drop 5 s) ++ drop i s → b ≡ getD r (i + 5) 0 → b ≡ getD (drop 5 s) i 0
+move-reads s r i b h e f =
+    let p : List ℕ = take i (drop 5 s) in
+    let lp : length p ≡ i = length-take-le i (drop 5 s) (simp length-drop (omega arith)) in
     let x : getD (p ++ drop i s) (i + 5) 0 ≡ getD (drop i s) 5 0 = ap (λ (n : ℕ). getD (p ++ drop i s) (n + 5) 0) (sym lp) ∙ getD-append-add p (drop i s) 5 0 in
     let y : i + 5 ≡ 5 + i = omega arith in
-    f ∙ ap (λ (l : List ℕ). getD l (i + 5) 0) e ∙ x ∙ getD-drop i s 5 0 ∙ ap (λ (n : ℕ). getD s n 0) y ∙ sym (getD-drop 5 s i 0) ∙ sym (tail-zeros (drop 5 s) 5 i)
+    f ∙ ap (λ (l : List ℕ). getD l (i + 5) 0) e ∙ x ∙ getD-drop i s 5 0 ∙ ap (λ (n : ℕ). getD s n 0) y ∙ sym (getD-drop 5 s i 0)
 
 -- a turn: one byte more of t stands in place of s
 pub turn : (t s r : List ℕ) (i b : ℕ) → i < length t → i < length s → r ≡ take i t ++ drop i s → b ≡ getD t i 0 → set r i b ≡ take (i + 1) t ++ drop (i + 1) s
@@ -104,6 +88,21 @@ turn t s r i b h k e f = rw add-one (ap₂ (λ (l : List ℕ) (x : ℕ). set l i
 -- all turns done
 pub all-turns : (t s r : List ℕ) (i : ℕ) → length t ≡ length s → length s ≤ i → r ≡ take i t ++ drop i s → r ≡ t
 all-turns t s r i e h f = f ∙ ap (λ (l : List ℕ). take i t ++ l) (drop-of-length-le s h) ∙ append-nil (take i t) ∙ take-all i t (omega arith)
+
+-- the tokens' bytes all moved, and zeros behind
+pub move-whole : (s r last : List ℕ) (i k : ℕ) → k + 5 ≡ length s → i ≡ k → r ≡ take i (drop 5 s) ++ drop i s → last ≡ replicate (length (mid k (length s - k) r)) 0 → putMid k (length s - k) r last ≡ moved s
+unfolding moved
+move-whole s r last i k h z e f =
+    let p : List ℕ = drop 5 s in
+    let q : List ℕ = drop k s in
+    let lp : k ≡ length p = simp length-drop (omega arith) in
+    let g : r ≡ p ++ q = e ∙ ap (λ (n : ℕ). take n p ++ drop n s) z ∙ ap (λ (l : List ℕ). l ++ q) (take-all k p (omega (arith, lp))) in
+    let x : take k r ≡ p = ap₂ (λ (n : ℕ) (l : List ℕ). take n l) lp g ∙ take-append-seam p q in
+    let y : drop k r ≡ q = ap₂ (λ (n : ℕ) (l : List ℕ). drop n l) lp g ∙ drop-append-seam p q in
+    let five : length (mid k (length s - k) r) ≡ 5 = rw y (simp (length-take, length-drop) (omega arith)) in
+    let short : length q ≤ length s - k = simp length-drop (omega arith) in
+    let none : drop (length s - k) q ≡ [] = drop-of-length-le q short in
+    rw (x, y, none, append-nil) (ap (λ (l : List ℕ). p ++ l) (f ∙ ap (λ (n : ℕ). replicate n 0) five))
 
 -- ── zeros ────────────────────────────────────────────────────────────────────────────────────
 

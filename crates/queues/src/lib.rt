@@ -58,16 +58,19 @@ pub fn push(s: &mut [u8], t: Token)
 }
 
 // The tokens' bytes moved down over the oldest one, and zeros behind them.
+// The loop does nothing but move, so that the compiler can move many bytes at a time.
 fn move_down(s: &mut [u8])
     requires { ⌜ 5 ≤ length (now s) ⌝ }
     ensures { λ _. ⌜ now (s .exit) ≡ moved (now (s .entry)) ⌝ }
 {
+    let end = s.len();
+    let kept = end - 5;
     let mut i = 0;
-    while i < s.len() {
-        let b = octets::byte_at(s, i + 5);
-        s[i] = b;
+    while i < kept {
+        s[i] = s[i + 5];
         i += 1;
     }
+    clear(&mut s[kept..end]);
 }
 
 // The oldest token away from a wire.
