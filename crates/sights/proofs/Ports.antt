@@ -4,7 +4,8 @@ use mathlib.Core.Path.{_≡_, refl, sym, ap, _∙_}
 use mathlib.Core.List.{List}
 use Prim.Native.Nat.{ℕ, _+_, _<_}
 use native.Mathlib.Omega.{arith}
-use lib.ListN.{length, getD, length-map}
+use lib.ListN.{length, getD, drop, length-map}
+use lib.Seq.{getD-drop}
 use Rattle.model.specs.Bytes.{stretch}
 use Rattle.model.specs.NetworkFile.{Index, variableStart, bodyAt, wireOf, boxOf, boxAt, wiresOf}
 use Rattle.model.proofs.Decoded.{GoodBox, box-good, stretch-at, length-stretch}
@@ -69,3 +70,10 @@ module _ (s t : List ℕ) (c : Counts) (h : Tabled s t c) (k : ℕ) (l : k < c .
       let f : v ≡ getD ((boxAt s x k) .outs) j 0 =
       q ∙ ap (λ (y : List ℕ). getD y (3 + i + j) 0) e ∙ ap (λ (y : ℕ). getD body (3 + y + j) 0) u ∙ sym (ap (λ (y : List ℕ). getD y j 0) outs-are ∙ stretch-at body (3 + n) (getD body 1 0) j o) in
       (f, omega (arith, f, wires-are, box-is .outs j m))
+
+  -- behind the counts stand the wires of the inputs, then those of the outputs
+  pub ins-at : (b : List ℕ) → b ≡ body → (j : ℕ) → j < length ((boxAt s x k) .ins) → getD (drop 3 b) j 0 ≡ getD ((boxAt s x k) .ins) j 0
+  ins-at b e j m = getD-drop 3 b j 0 ∙ in-wire-is b j (getD b (3 + j) 0) e m refl .0
+
+  pub outs-at : (b : List ℕ) (i : ℕ) → b ≡ body → i ≡ getD b 0 0 → (j : ℕ) → j < length ((boxAt s x k) .outs) → getD (drop (3 + i) b) j 0 ≡ getD ((boxAt s x k) .outs) j 0
+  outs-at b i e g j m = getD-drop (3 + i) b j 0 ∙ out-wire-is b i j (getD b (3 + i + j) 0) e g m refl .0

@@ -4,13 +4,14 @@ use mathlib.Core.Path.{_≡_, refl, sym, ap, ap₂, _∙_, subst}
 use mathlib.Core.List.{List, [], _∷_}
 use Prim.Native.Nat.{ℕ, zero, suc, _+_, _-_, _*_, _≤_, _<_}
 use native.Mathlib.Omega.{arith}
-use native.Mathlib.Decide.{decLt}
+use native.Mathlib.Decide.{decLt, ℕ-discrete}
 use lib.Dec.{leb}
 use lib.IntN.{ℤ, pos}
 use lib.Signed.{mag}
 use mir.Syntax.{w64}
 use mir.Val.{toZ, ofZ}
-use lib.ListN.{length, getD, drop, replicate, List·getD-eq-default}
+use lib.ListN.{length, getD, drop, set, replicate, length-set, List·getD-eq-default}
+use lib.Seq.{getD-set-same, getD-set-other}
 use borrow.Author.Tests.{ne-eqb, le-leb, lt-leb}
 use Rattle.model.specs.declared.Token.{Token}
 use Rattle.model.specs.Bytes.{signedOf, fourAt, valueAt}
@@ -32,7 +33,7 @@ use Rattle.lookup.proofs.Tabled.{n-boxes}
 use Rattle.places.specs.Standing.{tokensOf, netIn, Standing, stateOf}
 use Rattle.places.proofs.Standing.{state-good, state-laid}
 use Rattle.sights.proofs.Ports.{box-is}
-use Rattle.sights.specs.Seen.{headOf, headIn, fullIn, AtPort, AtPorts, Values}
+use Rattle.sights.specs.Seen.{headOf, headIn, fullIn, Oldest, Fulls, Variables}
 
 -- ── a wire's bytes ───────────────────────────────────────────────────────────────────────────
 
@@ -99,32 +100,47 @@ queue-sane n s h w = go (decLt w (length (n .wires)))
 
 -- ── ports ────────────────────────────────────────────────────────────────────────────────────
 
--- the wire of port j was found, and what f says of it
-pub at-port : {A : Type 0} (ws : List ℕ) (f : ℕ → A) (j w : ℕ) (r : A) → w ≡ getD ws j 0 → r ≡ f w → AtPort ws f j r
-at-port ws f j w r e q = record { is = λ l. q ∙ ap f e }
+-- one more of what f says, behind the first j
+set-next : {A : Type 0} (f : ℕ → A) (d : A) (l : List A) (j : ℕ) (x : A) → j < length l → ((i : ℕ) → i < j → getD l i d ≡ f i) → x ≡ f j → (i : ℕ) → i < j + 1 → getD (set l j x) i d ≡ f i
+set-next {A} f d l j x h q e i m = go (ℕ-discrete i j)
+  where
+    go : Dec (i ≡ j) → getD (set l j x) i d ≡ f i
+    go (yes z) = rw z (getD-set-same l j x d h ∙ e)
+    go (no g) = getD-set-other l j i x d g ∙ q i (omega (arith, m, g))
 
--- what the bytes of a port's wire show
-module _ (n : Net) (s : State) (ws : List ℕ) (j : ℕ) (p : List ℕ) (h : AtPort ws (λ w. wireBytes (wire n w) (queue s w)) j p) where
-  pub port-head : (r : ℕ) → r ≡ headIn p → AtPort ws (λ w. headOf (queue s w)) j r
-  port-head r e = record { is = λ l. e ∙ ap headIn (h .is l) ∙ head-is (wire n (getD ws j 0)) (queue s (getD ws j 0)) }
-
-  pub port-full : (r : ℕ) → GoodState n s → r ≡ fullIn p → AtPort ws (λ w. hit (full n s w)) j r
-  port-full r g e = record { is = λ l. e ∙ ap fullIn (h .is l) ∙ full-is n s (getD ws j 0) (g .most (getD ws j 0)) }
-
-  pub port-value : (t : Token) → Sound n s → t ≡ tokenAt (drop 1 p) → AtPort ws (λ w. (oldest (queue s w)) .value) j (t .value)
-  port-value t g e = record {
-    is = λ l.
-        ap (λ (u : Token). u .value) (e ∙ ap (λ (y : List ℕ). tokenAt (drop 1 y)) (h .is l) ∙ oldest-is (wire n (getD ws j 0)) (queue s (getD ws j 0)) (queue-sane n s g (getD ws j 0)));
+-- a turn finds wire w of port j, whose bytes are p
+module _ (n : Net) (s : State) (ws : List ℕ) (j w : ℕ) (p : List ℕ) (found : w ≡ getD ws j 0) (bytes : p ≡ wireBytes (wire n w) (queue s w)) where
+  pub oldest-next : (h : List ℕ) (v : List ℤ) (a : ℕ) (z : ℤ) (t : Token) → Sound n s → a ≡ headIn p → z ≡ t .value → t ≡ tokenAt (drop 1 p) → j < length h → j < length v → Oldest s ws j h v → Oldest s ws (j + 1) (set h j a) (set v j z)
+  oldest-next h v a z t g e y f lh lv q = record {
+    heads = set-next (λ i. headOf (queue s (getD ws i 0))) 0 h j a lh (q .heads) (e ∙ ap headIn bytes ∙ head-is (wire n w) (queue s w) ∙ ap (λ (i : ℕ). headOf (queue s i)) found);
+    values = set-next (λ i. (oldest (queue s (getD ws i 0))) .value) (pos 0) v j z lv (q .values)
+        (y ∙ ap (λ (u : Token). u .value) (f ∙ ap (λ (y : List ℕ). tokenAt (drop 1 y)) bytes ∙ oldest-is (wire n w) (queue s w) (queue-sane n s g w)) ∙ ap (λ (i : ℕ). (oldest (queue s i)) .value) found);
   }
 
--- four answers, and what stands behind them
-four : {A : Type 0} (n : ℕ) (f : ℕ → A) (d a b c e : A) (rest : List A) → n ≤ 4 → (0 < n → a ≡ f 0) → (1 < n → b ≡ f 1) → (2 < n → c ≡ f 2) → (3 < n → e ≡ f 3)
-    → (j : ℕ) → j < n → getD (a ∷ b ∷ c ∷ e ∷ rest) j d ≡ f j
-four n f d a b c e rest m p q r s zero l = p l
-four n f d a b c e rest m p q r s (suc zero) l = q l
-four n f d a b c e rest m p q r s (suc (suc zero)) l = r l
-four n f d a b c e rest m p q r s (suc (suc (suc zero))) l = s l
-four n f d a b c e rest m p q r s (suc (suc (suc (suc j)))) l = absurd (omega arith)
+  pub fulls-next : (v : List ℕ) (a : ℕ) → GoodState n s → a ≡ fullIn p → j < length v → Fulls n s ws j v → Fulls n s ws (j + 1) (set v j a)
+  fulls-next v a g e l q = record {
+    each = set-next (λ i. hit (full n s (getD ws i 0))) 0 v j a l (q .each) (e ∙ ap fullIn bytes ∙ full-is n s w (g .most w) ∙ ap (λ (i : ℕ). hit (full n s i)) found);
+  }
+
+-- all turns done, where the wires found are those of the ports
+module _ (n : Net) (s : State) (ws us : List ℕ) (j : ℕ) (all : j ≡ length us) (same : (i : ℕ) → i < length us → getD ws i 0 ≡ getD us i 0) where
+  pub oldest-all : (h : List ℕ) (v : List ℤ) → Oldest s ws j h v → Oldest s us (length us) h v
+  oldest-all h v q = record {
+    heads = λ i l. q .heads i (omega (arith, l, all)) ∙ ap (λ (k : ℕ). headOf (queue s k)) (same i l);
+    values = λ i l. q .values i (omega (arith, l, all)) ∙ ap (λ (k : ℕ). (oldest (queue s k)) .value) (same i l);
+  }
+
+  pub fulls-all : (v : List ℕ) → Fulls n s ws j v → Fulls n s us (length us) v
+  fulls-all v q = record { each = λ i l. q .each i (omega (arith, l, all)) ∙ ap (λ (k : ℕ). hit (full n s k)) (same i l) }
+
+-- four answers
+four : {A : Type 0} (n : ℕ) (f : ℕ → A) (d a b c e : A) → n ≤ 4 → (0 < n → a ≡ f 0) → (1 < n → b ≡ f 1) → (2 < n → c ≡ f 2) → (3 < n → e ≡ f 3)
+    → (j : ℕ) → j < n → getD (a ∷ b ∷ c ∷ e ∷ []) j d ≡ f j
+four n f d a b c e m p q r s zero l = p l
+four n f d a b c e m p q r s (suc zero) l = q l
+four n f d a b c e m p q r s (suc (suc zero)) l = r l
+four n f d a b c e m p q r s (suc (suc (suc zero))) l = s l
+four n f d a b c e m p q r s (suc (suc (suc (suc j)))) l = absurd (omega arith)
 
 -- what holds of four, and of each that stands behind them
 all-four : {A : Type 0} (P : A → Type 0) (d a b c e : A) (rest : List A) → P a → P b → P c → P e → ((j : ℕ) → P (getD rest j d)) → (j : ℕ) → P (getD (a ∷ b ∷ c ∷ e ∷ rest) j d)
@@ -133,9 +149,6 @@ all-four P d a b c e rest p q r s h (suc zero) = q
 all-four P d a b c e rest p q r s h (suc (suc zero)) = r
 all-four P d a b c e rest p q r s h (suc (suc (suc zero))) = s
 all-four P d a b c e rest p q r s h (suc (suc (suc (suc j)))) = h j
-
-pub four-ports : {A : Type 0} (ws : List ℕ) (f : ℕ → A) (d a b c e : A) → length ws ≤ 4 → AtPort ws f 0 a → AtPort ws f 1 b → AtPort ws f 2 c → AtPort ws f 3 e → AtPorts ws f d (a ∷ b ∷ c ∷ e ∷ [])
-four-ports ws f d a b c e m p q r s = record { each = four (length ws) (λ j. f (getD ws j 0)) d a b c e [] m (p .is) (q .is) (r .is) (s .is) }
 
 -- ── what a box sees ──────────────────────────────────────────────────────────────────────────
 
@@ -147,8 +160,17 @@ Below z = mag z < 2147483648
 abbrev held : ℤ → ℤ
 held z = toZ w64 (ofZ w64 z)
 
-pub held-port : (ws : List ℕ) (f : ℕ → ℤ) (j : ℕ) (z : ℤ) → Below z → AtPort ws f j z → AtPort ws f j (held z) × Below (held z)
-held-port ws f j z m h = let e : held z ≡ z = back (omega arith) in rw e (h, m)
+-- a value more, in the place of an input
+pub variables-next : (vs v : List ℤ) (j : ℕ) (z y : ℤ) → z ≡ y → Below y → j < 4 → j < length v → Variables vs v → Variables vs (set v j z)
+variables-next vs v j z y e h l m q = record {
+  long = length-set v j z ∙ q .long;
+  vars = λ i g. getD-set-other v j (4 + i) z (pos 0) (λ k. omega (arith, k, l)) ∙ q .vars i g;
+  small = λ i. go i (ℕ-discrete i j);
+}
+  where
+    go : (i : ℕ) → Dec (i ≡ j) → Below (getD (set v j z) i (pos 0))
+    go i (yes k) = rw (k, getD-set-same v j z (pos 0) m, e) h
+    go i (no g) = rw (getD-set-other v j i z (pos 0) g) (q .small i)
 
 var-is : {p : Proc} {o : Own} → Kept p o → (j : ℕ) → j < length (varsOf o) → valueAt (ownBytes p o) (4 * j) ≡ getD (varsOf o) j (pos 0)
 unfolding varsOf
@@ -189,38 +211,30 @@ module _ (s t p ts b : List ℕ) (c : Counts) (h : Standing s t p ts b c) (k : �
   unfolding proc own
   own-held = both-at ((state-laid s t p ts b c h) .procs) k nobody (vars []) is-proc
 
-  abbrev Input : ℕ → ℤ → Type 0
-  Input j z = AtPort (seen .ins) (λ w. (oldest (queue st w)) .value) j z × Below z
-
   abbrev Variable : List ℕ → ℕ → ℤ → Type 0
   Variable o j z = (z ≡ valueAt o (4 * j)) × Below z
 
-  -- four values of inputs and four of variables, each as the machine holds it
-  module _ (o : List ℕ) (e : o ≡ ownBytes (proc n k) (own st k)) (i₀ i₁ i₂ i₃ v₀ v₁ v₂ v₃ : ℤ)
-      (a₀ : Input 0 i₀) (a₁ : Input 1 i₁) (a₂ : Input 2 i₂) (a₃ : Input 3 i₃) (b₀ : Variable o 0 v₀) (b₁ : Variable o 1 v₁) (b₂ : Variable o 2 v₂) (b₃ : Variable o 3 v₃) where
+  -- four values of variables, each as the machine holds it
+  module _ (o : List ℕ) (e : o ≡ ownBytes (proc n k) (own st k)) (v₀ v₁ v₂ v₃ : ℤ) (b₀ : Variable o 0 v₀) (b₁ : Variable o 1 v₁) (b₂ : Variable o 2 v₂) (b₃ : Variable o 3 v₃) where
     abbrev plain : List ℤ
-    plain = i₀ ∷ i₁ ∷ i₂ ∷ i₃ ∷ v₀ ∷ v₁ ∷ v₂ ∷ v₃ ∷ []
+    plain = pos 0 ∷ pos 0 ∷ pos 0 ∷ pos 0 ∷ v₀ ∷ v₁ ∷ v₂ ∷ v₃ ∷ []
 
     var : (j : ℕ) (z : ℤ) → Variable o j z → j < length (varsOf (own st k)) → z ≡ getD (varsOf (own st k)) j (pos 0)
     var j z q m = q .0 ∙ ap (λ (y : List ℕ). valueAt y (4 * j)) e ∙ var-is own-held j m
 
     small : (j : ℕ) → Below (getD plain j (pos 0))
-    small = all-four Below (pos 0) i₀ i₁ i₂ i₃ (v₀ ∷ v₁ ∷ v₂ ∷ v₃ ∷ []) (a₀ .1) (a₁ .1) (a₂ .1) (a₃ .1) (all-four Below (pos 0) v₀ v₁ v₂ v₃ [] (b₀ .1) (b₁ .1) (b₂ .1) (b₃ .1) (λ j. omega arith))
+    small = all-four Below (pos 0) (pos 0) (pos 0) (pos 0) (pos 0) (v₀ ∷ v₁ ∷ v₂ ∷ v₃ ∷ []) none none none none (all-four Below (pos 0) v₀ v₁ v₂ v₃ [] (b₀ .1) (b₁ .1) (b₂ .1) (b₃ .1) (λ j. none))
+      where
+        none : Below (pos 0)
+        none = omega arith
 
     var-at : (j : ℕ) → j < length (varsOf (own st k)) → getD plain (4 + j) (pos 0) ≡ getD (varsOf (own st k)) j (pos 0)
     var-at j m =
         let e : 4 + j ≡ suc (suc (suc (suc j))) = omega arith in
         ap (λ (i : ℕ). getD plain i (pos 0)) e
-        ∙ four (length (varsOf (own st k))) (λ i. getD (varsOf (own st k)) i (pos 0)) (pos 0) v₀ v₁ v₂ v₃ [] vars-few (var 0 v₀ b₀) (var 1 v₁ b₁) (var 2 v₂ b₂) (var 3 v₃ b₃) j m
+        ∙ four (length (varsOf (own st k))) (λ i. getD (varsOf (own st k)) i (pos 0)) (pos 0) v₀ v₁ v₂ v₃ vars-few (var 0 v₀ b₀) (var 1 v₁ b₁) (var 2 v₂ b₂) (var 3 v₃ b₃) j m
 
-    in-plain : Values st (seen .ins) (varsOf (own st k)) plain
-    in-plain = record {
-      values = four (length (seen .ins)) (λ j. (oldest (queue st (getD (seen .ins) j 0))) .value) (pos 0) i₀ i₁ i₂ i₃ (v₀ ∷ v₁ ∷ v₂ ∷ v₃ ∷ []) ins-few (a₀ .0 .is) (a₁ .0 .is) (a₂ .0 .is) (a₃ .0 .is);
-      vars = var-at;
-      small = small;
-    }
-
-    pub values-are : Values st (seen .ins) (varsOf (own st k)) (held i₀ ∷ held i₁ ∷ held i₂ ∷ held i₃ ∷ held v₀ ∷ held v₁ ∷ held v₂ ∷ held v₃ ∷ [])
-    values-are =
+    pub variables-are : Variables (varsOf (own st k)) (pos 0 ∷ pos 0 ∷ pos 0 ∷ pos 0 ∷ held v₀ ∷ held v₁ ∷ held v₂ ∷ held v₃ ∷ [])
+    variables-are =
         let m : (z : ℤ) → Below z → held z ≡ z = λ z g. back (omega (arith, g)) in
-        rw (m i₀ (a₀ .1), m i₁ (a₁ .1), m i₂ (a₂ .1), m i₃ (a₃ .1), m v₀ (b₀ .1), m v₁ (b₁ .1), m v₂ (b₂ .1), m v₃ (b₃ .1)) in-plain
+        rw (m v₀ (b₀ .1), m v₁ (b₁ .1), m v₂ (b₂ .1), m v₃ (b₃ .1)) (record { long = refl; vars = var-at; small = small })

@@ -26,13 +26,20 @@ headIn p = cond (eqb (getD p 0 0) 0) 4 (getD p 1 0)
 unfoldable pub fullIn : List ℕ → ℕ  -- 1 where the tokens take all of a wire's bytes
 fullIn p = hit (leb (length p) (1 + 5 * getD p 0 0))
 
--- r is what f says of the wire of port j, where there is one
-pub record AtPort {A : Type 0} (ws : List ℕ) (f : ℕ → A) (j : ℕ) (r : A) : Type 0 where
-  pub is : j < length ws → r ≡ f (getD ws j 0)
+-- the oldest token's tag and value of each of the first n of these wires
+pub record Oldest (s : State) (ws : List ℕ) (n : ℕ) (h : List ℕ) (v : List ℤ) : Type 0 where
+  pub heads : (j : ℕ) → j < n → getD h j 0 ≡ headOf (queue s (getD ws j 0))
+  pub values : (j : ℕ) → j < n → getD v j (pos 0) ≡ (oldest (queue s (getD ws j 0))) .value
 
--- v holds what f says of the wire of each port
-pub record AtPorts {A : Type 0} (ws : List ℕ) (f : ℕ → A) (d : A) (v : List A) : Type 0 where
-  pub each : (j : ℕ) → j < length ws → getD v j d ≡ f (getD ws j 0)
+-- which of the first m of these wires are full
+pub record Fulls (n : Net) (s : State) (ws : List ℕ) (m : ℕ) (v : List ℕ) : Type 0 where
+  pub each : (j : ℕ) → j < m → getD v j 0 ≡ hit (full n s (getD ws j 0))
+
+-- eight values of four bytes: places of four inputs, then the variables
+pub record Variables (vs v : List ℤ) : Type 0 where
+  pub long : length v ≡ 8
+  pub vars : (j : ℕ) → j < length vs → getD v (4 + j) (pos 0) ≡ getD vs j (pos 0)
+  pub small : (j : ℕ) → mag (getD v j (pos 0)) < 2 ^ 31
 
 -- the oldest token's value of each of these wires, then the variables
 pub record Values (s : State) (ws : List ℕ) (vs v : List ℤ) : Type 0 where

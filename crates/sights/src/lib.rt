@@ -3,17 +3,15 @@ use model::ProcessId;
 use model::WireId;
 use table::Counts;
 ghost use mathlib.Core.Path.{_≡_};
-ghost use Prim.Native.Nat.{_+_, _<_, _^_};
+ghost use Prim.Native.Nat.{_+_, _≤_, _<_};
 ghost use lib.ListN.{length, getD};
-ghost use lib.Signed.{mag};
 ghost use Rattle.model.specs.Network.{wire, proc, queue, own, varsOf};
-ghost use Rattle.model.specs.NetworkFile.{boxAt, hit};
+ghost use Rattle.model.specs.NetworkFile.{boxAt};
 ghost use Rattle.model.specs.States.{wireBytes, ownBytes};
-ghost use Rattle.model.specs.Cycles.{oldest, full};
 ghost use Rattle.table.specs.Table.{indexIn};
 ghost use Rattle.lookup.specs.Tabled.{Tabled};
 ghost use Rattle.places.specs.Standing.{netIn, Standing, stateOf};
-ghost use Rattle.sights.specs.Seen.{headOf, headIn, fullIn, AtPort, AtPorts, Values, Seen};
+ghost use Rattle.sights.specs.Seen.{headIn, fullIn, Oldest, Fulls, Variables, Values, Seen};
 
 // What a box sees: of each input the oldest token's tag (4 where none waits) and value, the values of its variables from 4 on,
 // of each output whether its wire is full (1).
@@ -107,109 +105,66 @@ pub fn is_full(part: &[u8]) -> u8
     0
 }
 
-// The bytes of the wire of input j of box k; none where it has no such input.
-fn in_part<'a>(
+// The oldest token at each input of box k, one look at each wire: its tag in heads and its value in vals.
+fn see_inputs(
     net: &[u8],
     table: &[u16],
     c: Counts,
     starts: &[u16],
     tokens: &[u8],
     k: ProcessId,
-    j: usize,
-    state: &'a [u8],
-) -> &'a [u8]
+    state: &[u8],
+    heads: &mut [u8],
+    vals: &mut [i64],
+)
     requires { ⌜ Standing (now net) (now table) (now starts) (now tokens) (now state) c ⌝ }
     requires { ⌜ k .0 < c .boxes ⌝ }
-    ensures { λ r. ⌜ AtPort ((boxAt (now (net .entry)) (indexIn (now (table .entry)) c) (k .0)) .ins) (λ w. wireBytes (wire (netIn (now (net .entry)) (now (table .entry)) c (now (tokens .entry))) w) (queue (stateOf (now (net .entry)) (now (table .entry)) c (now (tokens .entry)) (now (state .entry))) w)) j (now r) ⌝ }
+    requires { ⌜ 4 ≤ length (now heads) ⌝ }
+    requires { ⌜ Variables (varsOf (own (stateOf (now net) (now table) c (now tokens) (now state)) (k .0))) (now vals) ⌝ }
+    ensures { λ _. ⌜ Oldest (stateOf (now (net .entry)) (now (table .entry)) c (now (tokens .entry)) (now (state .entry))) ((boxAt (now (net .entry)) (indexIn (now (table .entry)) c) (k .0)) .ins) (length ((boxAt (now (net .entry)) (indexIn (now (table .entry)) c) (k .0)) .ins)) (now (heads .exit)) (now (vals .exit)) × Variables (varsOf (own (stateOf (now (net .entry)) (now (table .entry)) c (now (tokens .entry)) (now (state .entry))) (k .0))) (now (vals .exit)) ⌝ }
 {
     let body = lookup::box_body(net, table, c, k);
-    if octets::wide(octets::byte_at(body, 0)) <= j {
-        return &state[0..0];
+    let n = octets::wide(octets::byte_at(body, 0));
+    let mut j: usize = 0;
+    while j < n {
+        let w = WireId(octets::byte_at(body, 3 + j));
+        let part = wire_part(net, table, c, starts, tokens, w, state);
+        let value = queues::oldest(part).value;
+        heads[j] = head(part);
+        vals[j] = value;
+        j += 1;
     }
-    let w = in_wire(net, table, c, k, j);
-    wire_part(net, table, c, starts, tokens, w, state)
 }
 
-// The bytes of the wire of output j of box k; none where it has no such output.
-fn out_part<'a>(
+// Of each output of box k whether its wire is full, in full.
+fn see_outputs(
     net: &[u8],
     table: &[u16],
     c: Counts,
     starts: &[u16],
     tokens: &[u8],
     k: ProcessId,
-    j: usize,
-    state: &'a [u8],
-) -> &'a [u8]
+    state: &[u8],
+    full: &mut [u8],
+)
     requires { ⌜ Standing (now net) (now table) (now starts) (now tokens) (now state) c ⌝ }
     requires { ⌜ k .0 < c .boxes ⌝ }
-    ensures { λ r. ⌜ AtPort ((boxAt (now (net .entry)) (indexIn (now (table .entry)) c) (k .0)) .outs) (λ w. wireBytes (wire (netIn (now (net .entry)) (now (table .entry)) c (now (tokens .entry))) w) (queue (stateOf (now (net .entry)) (now (table .entry)) c (now (tokens .entry)) (now (state .entry))) w)) j (now r) ⌝ }
+    requires { ⌜ 4 ≤ length (now full) ⌝ }
+    ensures { λ _. ⌜ Fulls (netIn (now (net .entry)) (now (table .entry)) c (now (tokens .entry))) (stateOf (now (net .entry)) (now (table .entry)) c (now (tokens .entry)) (now (state .entry))) ((boxAt (now (net .entry)) (indexIn (now (table .entry)) c) (k .0)) .outs) (length ((boxAt (now (net .entry)) (indexIn (now (table .entry)) c) (k .0)) .outs)) (now (full .exit)) ⌝ }
 {
     let body = lookup::box_body(net, table, c, k);
-    if octets::wide(octets::byte_at(body, 1)) <= j {
-        return &state[0..0];
+    let first = 3 + octets::wide(octets::byte_at(body, 0));
+    let n = octets::wide(octets::byte_at(body, 1));
+    let mut j: usize = 0;
+    while j < n {
+        let w = WireId(octets::byte_at(body, first + j));
+        full[j] = is_full(wire_part(net, table, c, starts, tokens, w, state));
+        j += 1;
     }
-    let w = out_wire(net, table, c, k, j);
-    wire_part(net, table, c, starts, tokens, w, state)
 }
 
-// The tag of the oldest token at input j.
-fn head_at(
-    net: &[u8],
-    table: &[u16],
-    c: Counts,
-    starts: &[u16],
-    tokens: &[u8],
-    k: ProcessId,
-    j: usize,
-    state: &[u8],
-) -> u8
-    requires { ⌜ Standing (now net) (now table) (now starts) (now tokens) (now state) c ⌝ }
-    requires { ⌜ k .0 < c .boxes ⌝ }
-    ensures { λ r. ⌜ AtPort ((boxAt (now (net .entry)) (indexIn (now (table .entry)) c) (k .0)) .ins) (λ w. headOf (queue (stateOf (now (net .entry)) (now (table .entry)) c (now (tokens .entry)) (now (state .entry))) w)) j r ⌝ }
-{
-    head(in_part(net, table, c, starts, tokens, k, j, state))
-}
-
-// The value of the oldest token at input j.
-fn value_at(
-    net: &[u8],
-    table: &[u16],
-    c: Counts,
-    starts: &[u16],
-    tokens: &[u8],
-    k: ProcessId,
-    j: usize,
-    state: &[u8],
-) -> i64
-    requires { ⌜ Standing (now net) (now table) (now starts) (now tokens) (now state) c ⌝ }
-    requires { ⌜ k .0 < c .boxes ⌝ }
-    ensures { λ r. ⌜ AtPort ((boxAt (now (net .entry)) (indexIn (now (table .entry)) c) (k .0)) .ins) (λ w. (oldest (queue (stateOf (now (net .entry)) (now (table .entry)) c (now (tokens .entry)) (now (state .entry))) w)) .value) j r × (mag r < 2 ^ 31) ⌝ }
-{
-    let t = queues::oldest(in_part(net, table, c, starts, tokens, k, j, state));
-    t.value
-}
-
-// Whether the wire of output j is full.
-fn full_at(
-    net: &[u8],
-    table: &[u16],
-    c: Counts,
-    starts: &[u16],
-    tokens: &[u8],
-    k: ProcessId,
-    j: usize,
-    state: &[u8],
-) -> u8
-    requires { ⌜ Standing (now net) (now table) (now starts) (now tokens) (now state) c ⌝ }
-    requires { ⌜ k .0 < c .boxes ⌝ }
-    ensures { λ r. ⌜ AtPort ((boxAt (now (net .entry)) (indexIn (now (table .entry)) c) (k .0)) .outs) (λ w. hit (full (netIn (now (net .entry)) (now (table .entry)) c (now (tokens .entry))) (stateOf (now (net .entry)) (now (table .entry)) c (now (tokens .entry)) (now (state .entry))) w)) j r ⌝ }
-{
-    is_full(out_part(net, table, c, starts, tokens, k, j, state))
-}
-
-// The tags of the oldest tokens at the inputs of box k.
-fn heads(
+// The values of box k's variables, behind the places of its inputs.
+fn variables(
     net: &[u8],
     table: &[u16],
     c: Counts,
@@ -217,43 +172,26 @@ fn heads(
     tokens: &[u8],
     k: ProcessId,
     state: &[u8],
-) -> [u8; 4]
+) -> [i64; 8]
     requires { ⌜ Standing (now net) (now table) (now starts) (now tokens) (now state) c ⌝ }
     requires { ⌜ k .0 < c .boxes ⌝ }
-    ensures { λ r. ⌜ AtPorts ((boxAt (now (net .entry)) (indexIn (now (table .entry)) c) (k .0)) .ins) (λ w. headOf (queue (stateOf (now (net .entry)) (now (table .entry)) c (now (tokens .entry)) (now (state .entry))) w)) 0 r ⌝ }
+    ensures { λ r. ⌜ Variables (varsOf (own (stateOf (now (net .entry)) (now (table .entry)) c (now (tokens .entry)) (now (state .entry))) (k .0))) r ⌝ }
 {
+    let own = own_part(net, table, c, starts, tokens, k, state);
     [
-        head_at(net, table, c, starts, tokens, k, 0, state),
-        head_at(net, table, c, starts, tokens, k, 1, state),
-        head_at(net, table, c, starts, tokens, k, 2, state),
-        head_at(net, table, c, starts, tokens, k, 3, state),
-    ]
-}
-
-// Which of the outputs of box k have a full wire.
-fn fulls(
-    net: &[u8],
-    table: &[u16],
-    c: Counts,
-    starts: &[u16],
-    tokens: &[u8],
-    k: ProcessId,
-    state: &[u8],
-) -> [u8; 4]
-    requires { ⌜ Standing (now net) (now table) (now starts) (now tokens) (now state) c ⌝ }
-    requires { ⌜ k .0 < c .boxes ⌝ }
-    ensures { λ r. ⌜ AtPorts ((boxAt (now (net .entry)) (indexIn (now (table .entry)) c) (k .0)) .outs) (λ w. hit (full (netIn (now (net .entry)) (now (table .entry)) c (now (tokens .entry))) (stateOf (now (net .entry)) (now (table .entry)) c (now (tokens .entry)) (now (state .entry))) w)) 0 r ⌝ }
-{
-    [
-        full_at(net, table, c, starts, tokens, k, 0, state),
-        full_at(net, table, c, starts, tokens, k, 1, state),
-        full_at(net, table, c, starts, tokens, k, 2, state),
-        full_at(net, table, c, starts, tokens, k, 3, state),
+        0,
+        0,
+        0,
+        0,
+        queues::var_at(own, 0),
+        queues::var_at(own, 1),
+        queues::var_at(own, 2),
+        queues::var_at(own, 3),
     ]
 }
 
 // The values of the oldest tokens at the inputs of box k, then of its variables.
-fn values(
+pub fn values(
     net: &[u8],
     table: &[u16],
     c: Counts,
@@ -266,17 +204,20 @@ fn values(
     requires { ⌜ k .0 < c .boxes ⌝ }
     ensures { λ r. ⌜ Values (stateOf (now (net .entry)) (now (table .entry)) c (now (tokens .entry)) (now (state .entry))) ((boxAt (now (net .entry)) (indexIn (now (table .entry)) c) (k .0)) .ins) (varsOf (own (stateOf (now (net .entry)) (now (table .entry)) c (now (tokens .entry)) (now (state .entry))) (k .0))) r ⌝ }
 {
-    let own = own_part(net, table, c, starts, tokens, k, state);
-    [
-        value_at(net, table, c, starts, tokens, k, 0, state),
-        value_at(net, table, c, starts, tokens, k, 1, state),
-        value_at(net, table, c, starts, tokens, k, 2, state),
-        value_at(net, table, c, starts, tokens, k, 3, state),
-        queues::var_at(own, 0),
-        queues::var_at(own, 1),
-        queues::var_at(own, 2),
-        queues::var_at(own, 3),
-    ]
+    let mut heads = [0u8; 4];
+    let mut vals = variables(net, table, c, starts, tokens, k, state);
+    see_inputs(
+        net,
+        table,
+        c,
+        starts,
+        tokens,
+        k,
+        state,
+        &mut heads,
+        &mut vals,
+    );
+    vals
 }
 
 // What box k sees.
@@ -293,8 +234,20 @@ pub fn view_of(
     requires { ⌜ k .0 < c .boxes ⌝ }
     ensures { λ r. ⌜ Seen (netIn (now (net .entry)) (now (table .entry)) c (now (tokens .entry))) (stateOf (now (net .entry)) (now (table .entry)) c (now (tokens .entry)) (now (state .entry))) (boxAt (now (net .entry)) (indexIn (now (table .entry)) c) (k .0)) (varsOf (own (stateOf (now (net .entry)) (now (table .entry)) c (now (tokens .entry)) (now (state .entry))) (k .0))) r ⌝ }
 {
-    let heads = heads(net, table, c, starts, tokens, k, state);
-    let full = fulls(net, table, c, starts, tokens, k, state);
-    let vals = values(net, table, c, starts, tokens, k, state);
+    let mut heads = [0u8; 4];
+    let mut full = [0u8; 4];
+    let mut vals = variables(net, table, c, starts, tokens, k, state);
+    see_inputs(
+        net,
+        table,
+        c,
+        starts,
+        tokens,
+        k,
+        state,
+        &mut heads,
+        &mut vals,
+    );
+    see_outputs(net, table, c, starts, tokens, k, state, &mut full);
     View { heads, full, vals }
 }

@@ -1,56 +1,25 @@
+use native.Mathlib.Omega.{arith}
 use borrow.Author.Needs.{needs}
-use Rattle.sights.proofs.Sights.{values-are}
 use Rattle.sights.proofs.values.Statement.{statement}
 use Rattle.sights.proofs.values.Tie as tie
 
-own-part-requires : tie.Need-own-part-requires
-own-part-requires c κs = search needs
+variables-requires : tie.Need-variables-requires
+variables-requires c κs = search needs
 
-value-at-requires : tie.Need-value-at-requires
-value-at-requires c κs = search needs
+slice-aggregate-see-inputs : tie.Need-slice-aggregate-see-inputs
+slice-aggregate-see-inputs c = search needs
 
-value-at-requires-2 : tie.Need-value-at-requires-2
-value-at-requires-2 c κs = search needs
+slice-aggregate-see-inputs-2 : tie.Need-slice-aggregate-see-inputs-2
+slice-aggregate-see-inputs-2 c = search needs
 
-value-at-requires-3 : tie.Need-value-at-requires-3
-value-at-requires-3 c κs = search needs
-
-value-at-requires-4 : tie.Need-value-at-requires-4
-value-at-requires-4 c κs = search needs
-
-var-at-requires : tie.Need-var-at-requires
-var-at-requires c κs = search needs
-
-var-at-requires-2 : tie.Need-var-at-requires-2
-var-at-requires-2 c κs = search needs
-
-var-at-requires-3 : tie.Need-var-at-requires-3
-var-at-requires-3 c κs = search needs
-
-var-at-requires-4 : tie.Need-var-at-requires-4
-var-at-requires-4 c κs = search needs
+see-inputs-requires : tie.Need-see-inputs-requires
+see-inputs-requires c κs =
+    let vars = c .before .before in
+    let start = vars .before .before .before .before .before .before in
+    (start .pre .0, (start .pre .1, (omega arith, vars .variables .ensures)))
 
 returns : tie.Need-returns
-returns c =
-    let last = c .before .before .before .before in
-    let part = last .before .before .before .before in
-    let start = part .before .before .before .before .before .before in
-    let a = start .args in
-    values-are (a .net .now) (a .table .now) (a .starts .now) (a .tokens .now) (a .state .now) (a .c) (start .pre .0) (a .k .0) (start .pre .1) (part .own-part .result .now) (part .own-part .ensures) _ _ _ _ _ _ _ _
-    (last .before .before .before .value-at .ensures) (last .before .before .value-at2 .ensures) (last .before .value-at3 .ensures) (last .value-at4 .ensures)
-    (c .before .before .before .var-at .ensures) (c .before .before .var-at2 .ensures) (c .before .var-at3 .ensures) (c .var-at4 .ensures)
+returns c = search needs
 
 pub values-spec : {M : Type 1} → statement M
-values-spec =
-    tie.close
-    (tie.spec
-    own-part-requires
-    value-at-requires
-    value-at-requires-2
-    value-at-requires-3
-    value-at-requires-4
-    var-at-requires
-    var-at-requires-2
-    var-at-requires-3
-    var-at-requires-4
-    returns)
+values-spec = tie.close (tie.spec variables-requires slice-aggregate-see-inputs slice-aggregate-see-inputs-2 see-inputs-requires returns)
