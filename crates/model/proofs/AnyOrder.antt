@@ -6,7 +6,7 @@ use mathlib.Core.List.{List, [], _∷_, _++_}
 use Prim.Native.Nat.{ℕ, zero, suc, _+_, _-_, _*_, _/_, _%_, _^_, _≤_}
 use native.Mathlib.Omega.{arith}
 use native.Mathlib.Nat.{pow-succ', div-div-eq-div-mul}
-use lib.Dec.{eqb}
+use lib.Dec.{eqb, eqb·suc-suc}
 use lib.Pow.{pow-pos}
 use borrow.Author.Tests.{eqb-true}
 use mathlib.Core.Logic.{_≢_}
@@ -14,7 +14,7 @@ use Rattle.model.specs.Network.{Net, State}
 use Rattle.model.specs.NetworkFile.{hit, count}
 use Rattle.model.specs.Cycles.{Ended, bits, has, isOrder, markedOf, markedSet, Deed, mark, Finding, broken, still, moving, finding, run, halt, proceed, stop, later}
 use Rattle.model.specs.Orders.{Order, Reached, cycled, deeds, Demand3}
-use Rattle.model.proofs.Tests.{and₂, same-or}
+use Rattle.model.proofs.Tests.{and₂}
 use Rattle.model.proofs.Order.{remove, hit-same, hit-other, sum-remove, count-remove}
 use Rattle.model.proofs.Sound.{marked-once, orders-alike}
 use Rattle.model.proofs.Whole.{tokens-accepted}
@@ -25,14 +25,11 @@ down [] = []
 down (zero ∷ ks) = down ks
 down (suc k ∷ ks) = k ∷ down ks
 
-hit-down : (a b : ℕ) → hit (eqb (suc a) (suc b)) ≡ hit (eqb a b)
-hit-down a b = same-or a b (λ e. hit-same (suc a) (suc b) (ap suc e) ∙ sym (hit-same a b e)) (λ f. hit-other (suc a) (suc b) (λ p. f (omega (arith, p))) ∙ sym (hit-other a b f))
-
 count-down : (ks : List ℕ) (j : ℕ) → count j (down ks) ≡ count (suc j) ks
 unfolding count down
 count-down [] j = refl
 count-down (zero ∷ ks) j = omega (arith, count-down ks j, hit-other 0 (suc j) (λ e. omega (arith, e)))
-count-down (suc k ∷ ks) j = omega (arith, count-down ks j, hit-down k j)
+count-down (suc k ∷ ks) j = omega (arith, count-down ks j, ap hit (eqb·suc-suc k j))
 
 bits-down : (ks : List ℕ) → bits ks ≡ count 0 ks + 2 * bits (down ks)
 unfolding bits count down
@@ -48,13 +45,10 @@ bit (suc k) ks once =
     rw (pow-succ' 2 k) (rw (← div-div-eq-div-mul (bits ks) 2 (2 ^ k)) (rw half
     (bit k (down ks) (λ j. omega (arith, count-down ks j, once (suc j))) ∙ count-down ks k)))
 
-bits-remove : (k : ℕ) (ks : List ℕ) → 1 ≤ count k ks → bits ks ≡ 2 ^ k + bits (remove k ks)
-bits-remove k ks h = unfold bits in sum-remove bits (λ j. 2 ^ j) (λ j js. refl) k ks h
-
 -- one name struck off: its bit is cleared, and what is left names nothing twice
 module _ (k : ℕ) (ms : List ℕ) (once : (j : ℕ) → count j ms ≤ 1) (c : count k ms ≡ 1) where
   cleared : bits ms - 2 ^ k ≡ bits (remove k ms)
-  cleared = omega (arith, bits-remove k ms (omega arith))
+  cleared = unfold bits in omega (arith, sum-remove bits (λ j. 2 ^ j) (λ j js. refl) k ms (omega (arith, c)))
 
   once-left : (j : ℕ) → count j (remove k ms) ≤ 1
   once-left j = omega (arith, once j, count-remove k ms (omega arith) j)

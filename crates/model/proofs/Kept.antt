@@ -299,11 +299,6 @@ module _ (n : Net) (gn : GoodNet n) (s : State) (gs : GoodState n s) where
 -- ── a cycle in any order, and all cycles since the load ──────────────────────────────────────
 
 module _ (n : Net) (m : ℕ → Mark) (one : OneEach n) where
-  own-fire : (k j : ℕ) (s : State) → GoodState n s → k < length (n .procs) → GoodDeed n (proc n k) (deed n m k s) → j < length (n .procs) → GoodOwn n (proc n j) (own (fire n m k s) j)
-  own-fire k j s g h x i = unfold own fire act in
-      same-or j k (λ e. rw e (rw (getD-set-same (s .owns) k ((deed n m k s) .keeps) (vars []) (omega (arith, h, g .owns))) (x .keeps)))
-      (λ f. rw (getD-set-other (s .owns) k j ((deed n m k s) .keeps) (vars []) f) (g .kept j i))
-
   -- a firing whose deed is good leaves the state well laid out
   good-next : (k : ℕ) (s : State) (es : List Deed) → Ready n m k s → (k < length (n .procs)) × GoodDeed n (proc n k) (deed n m k s) → Sound n (fire n m k s) es
       → GoodState n s → GoodState n (fire n m k s)
@@ -315,7 +310,8 @@ module _ (n : Net) (m : ℕ → Mark) (one : OneEach n) where
         most = q .fits;
         fit = λ w i. rw (queue-fire n m one k s r w) (fit-append ((wire n w) .ty) (drop (length (onWire w (a .took))) (queue s w)) (onWire w (a .put))
             (fit-drop ((wire n w) .ty) (length (onWire w (a .took))) (queue s w) (g .fit w i)) (x .1 .put w));
-        kept = λ j i. own-fire k j s g (x .0) (x .1) i;
+        kept = λ j i. unfold own fire act in same-or j k (λ e. rw e (rw (getD-set-same (s .owns) k (a .keeps) (vars []) (omega (arith, x .0, g .owns))) (x .1 .keeps)))
+            (λ f. rw (getD-set-other (s .owns) k j (a .keeps) (vars []) f) (g .kept j i));
       }
 
 module _ (n : Net) (gn : GoodNet n) (one : OneEach n) where

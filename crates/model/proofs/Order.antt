@@ -146,9 +146,6 @@ pub record Ready (n : Net) (m : ℕ → Mark) (k : ℕ) (s : State) : Type 0 whe
   pub has : (w : ℕ) → length (onWire w ((deed n m k s) .took)) ≤ length (queue s w)
   pub room : (w : ℕ) → length (queue s w) + length (onWire w ((deed n m k s) .put)) ≤ capacity n w
 
-no-capacity : (n : Net) (w : ℕ) → length (n .wires) ≤ w → capacity n w ≡ 0
-no-capacity n w h = unfold capacity wire noWire in ap (λ (x : Wire). x .capacity) (List·getD-eq-default (n .wires) noWire h)
-
 module _ (n : Net) (m : ℕ → Mark) (one : OneEach n) where
   -- two firings take one token at most from a wire, and put one at most on it; so does one firing
   moved-two : (j k : ℕ) (s : State) (w : ℕ) → j ≢ k → (length (onWire w ((deed n m j s) .took)) + length (onWire w ((deed n m k s) .took)) ≤ 1)
@@ -162,30 +159,27 @@ module _ (n : Net) (m : ℕ → Mark) (one : OneEach n) where
   -- a wire's queue after a firing, declared or not
   pub queue-fire : (k : ℕ) (s : State) → Ready n m k s → (w : ℕ)
       → queue (fire n m k s) w ≡ drop (length (onWire w ((deed n m k s) .took))) (queue s w) ++ onWire w ((deed n m k s) .put)
-  queue-fire k s r w = unfold fire in
+  queue-fire k s r w = unfold fire capacity wire noWire in
       let d = deed n m k s in
       cases (ltb w (length (s .queues))) (λ e. queue-act k d s w (ltb-true w (length (s .queues)) e)) (λ e.
       let f = ltb-false w (length (s .queues)) e in
       let past = queue-past s w f in
       let t : length (onWire w (d .took)) ≡ 0 = omega (arith, r .has w, ap length past) in
-      let p : onWire w (d .put) ≡ [] = drop-of-length-le (onWire w (d .put)) {i = 0} (omega (arith, r .room w, no-capacity n w (omega (arith, f, r .shape)))) in
+      let none′ : capacity n w ≡ 0 = ap (λ (x : Wire). x .capacity) (List·getD-eq-default (n .wires) noWire (omega (arith, f, r .shape))) in
+      let p : onWire w (d .put) ≡ [] = drop-of-length-le (onWire w (d .put)) {i = 0} (omega (arith, r .room w, none′)) in
       queue-past (act k d s) w (rw length-act f) ∙ sym (rw (t, p, past)))
 
   pub length-fire : (k : ℕ) (s : State) → Ready n m k s → (w : ℕ)
       → length (queue (fire n m k s) w) + length (onWire w ((deed n m k s) .took)) ≡ length (queue s w) + length (onWire w ((deed n m k s) .put))
   length-fire k s r w = let e = simp (length-append, length-drop) at (ap length (queue-fire k s r w)) in omega (arith, e, r .has w)
 
-  -- the oldest token of a wire that j reads is the same after k has fired
-  oldest-frame : (j k : ℕ) (s : State) → j ≢ k → Ready n m j s → Ready n m k s → (w : ℕ) → 1 ≤ length (onWire w ((deed n m j s) .took))
-      → oldest (queue (fire n m k s) w) ≡ oldest (queue s w)
-  oldest-frame j k s ne r q w h =
-      let z : length (onWire w ((deed n m k s) .took)) ≡ 0 = omega (arith, (moved-two j k s w ne) .0) in
-      ap oldest (queue-fire k s q w) ∙ rw z (oldest-append (queue s w) (onWire w ((deed n m k s) .put)) (omega (arith, r .has w)))
-
   pub deed-frame : (j k : ℕ) (s : State) → j ≢ k → Ready n m j s → Ready n m k s → deed n m j (fire n m k s) ≡ deed n m j s
   deed-frame j k s ne r q = unfold deed deedOf in
       ap₂ (λ (x : List (Option Token)) (o : Own). deedOf n (proc n j) (ruleOf (m j)) x o)
-      (look-frame s (fire n m k s) (insOf (proc n j)) (readsOf (proc n j) (ruleOf (m j))) (λ w h. oldest-frame j k s ne r q w h))
+      -- the oldest token of a wire that j reads is the same after k has fired
+      (look-frame s (fire n m k s) (insOf (proc n j)) (readsOf (proc n j) (ruleOf (m j))) (λ w h.
+      let z : length (onWire w ((deed n m k s) .took)) ≡ 0 = omega (arith, h, (moved-two j k s w ne) .0) in
+      ap oldest (queue-fire k s q w) ∙ rw z (oldest-append (queue s w) (onWire w ((deed n m k s) .put)) (omega (arith, h, r .has w)))))
       (unfold own fire act in getD-set-other (s .owns) k j _ (vars []) ne)
 
   ready-frame : (j k : ℕ) (s : State) → j ≢ k → Ready n m j s → Ready n m k s → Ready n m j (fire n m k s)
@@ -197,15 +191,12 @@ module _ (n : Net) (m : ℕ → Mark) (one : OneEach n) where
 
   -- two firings in either order: each wire, and what each process keeps
   module _ (j k : ℕ) (s : State) (ne : j ≢ k) (r : Ready n m j s) (q : Ready n m k s) where
-    commute-at : (w : ℕ) → queue (fire n m j (fire n m k s)) w ≡ queue (fire n m k (fire n m j s)) w
-    commute-at w =
+    commute-queues : (fire n m j (fire n m k s)) .queues ≡ (fire n m k (fire n m j s)) .queues
+    commute-queues = ext-getD [] _ _ (unfold fire in simp length-act) (λ w h. unfold queue in
         rw (queue-fire j (fire n m k s) (ready-frame j k s ne r q) w, queue-fire k (fire n m j s) (ready-frame k j s (λ p. ne (sym p)) q r) w)
         (rw (deed-frame j k s ne r q, deed-frame k j s (λ p. ne (sym p)) q r, queue-fire k s q w, queue-fire j s r w)
         (wire-commute (length (onWire w ((deed n m k s) .took))) (length (onWire w ((deed n m j s) .took))) (queue s w) (onWire w ((deed n m k s) .put)) (onWire w ((deed n m j s) .put))
-        (omega (arith, r .has w, q .has w, (moved-two j k s w ne) .0)) (omega (arith, (moved-two j k s w ne) .1))))
-
-    commute-queues : (fire n m j (fire n m k s)) .queues ≡ (fire n m k (fire n m j s)) .queues
-    commute-queues = unfold fire queue in ext-getD [] _ _ (simp length-act) (λ w h. commute-at w)
+        (omega (arith, r .has w, q .has w, (moved-two j k s w ne) .0)) (omega (arith, (moved-two j k s w ne) .1)))))
 
     commute-owns : (fire n m j (fire n m k s)) .owns ≡ (fire n m k (fire n m j s)) .owns
     commute-owns = unfold fire act in

@@ -8,16 +8,16 @@ use mathlib.Core.List.{List, [], _∷_, map, _++_, append-nil, append-assoc}
 use Prim.Native.Nat.{ℕ, zero, suc, _+_, _≤_, _<_}
 use native.Mathlib.Omega.{arith}
 use lib.Dec.{eqb, ltb}
-use lib.ListN.{length, getD, drop, length-map, List·getD-map}
+use lib.ListN.{length, getD, drop, length-map, List·getD-map, drop-of-length-le}
 use borrow.Author.Tests.{leb-false, eq-eqb, ne-eqb}
 use Rattle.model.specs.declared.Token.{Token}
 use Rattle.model.specs.declared.Outcome.{Outcome}
 use Rattle.model.specs.declared.Outcome.the-variants.{Value, Fault}
 use Rattle.model.specs.Expressions.{Env, valueOf}
-use Rattle.model.specs.Rules.{Rule, Pattern, ignore, any, only, Action, nothing, bare, send}
+use Rattle.model.specs.Rules.{Rule, Pattern, Action, nothing, bare, send}
 use Rattle.model.specs.Network.{Proc, box, input, output, Box, Net, State, Own, queue, own, proc, capacity, rule, varsOf, takenOf, gotOf, insOf, outsOf, noToken, noWire, loaded, noTokens}
 use Rattle.model.specs.NetworkFile.{count}
-use Rattle.model.specs.Cycles.{Mark, quiet, fires, faulty, upFrom, moves, look, seen, reads, writes, oldest, empty, full, readyIn, readyIns, readyOuts, readyVars, readyRule, result, deed, deedOf, envOf, ruleOf, readsOf, sentOf, faultless, actionsOf, chosen, attempt, guarded, tryRule, orElse, first, tried, flag, markOf, mark, Deed, fire, fireAll, cycleIn, marked, keepIf, markedFrom, markedOf, processes}
+use Rattle.model.specs.Cycles.{Mark, quiet, fires, faulty, upFrom, moves, look, seen, reads, matches, writes, oldest, empty, full, readyIn, readyIns, readyOuts, readyVars, readyRule, result, deed, deedOf, envOf, ruleOf, readsOf, sentOf, faultless, actionsOf, chosen, attempt, guarded, tryRule, orElse, first, tried, flag, markOf, mark, Deed, fire, fireAll, cycleIn, marked, keepIf, markedFrom, markedOf, processes}
 use Rattle.model.specs.Orders.{onWire, joined, deeds, putOn, takenFrom, Order, Reached, at-load, cycled, Sound, midway, Firing, AnyOrder}
 use Rattle.model.specs.States.{bytesOf}
 use Rattle.model.proofs.Tests.{and-left, and-right, and₂, and₃, not-true, same-or, cases}
@@ -51,10 +51,8 @@ result-writes en (bare t) h = refl
 result-writes en (send t e) h = refl
 
 read-nonempty : (p : Pattern) (q : List Token) → readyIn p q ≡ true → seen (reads p) q ≢ none → 1 ≤ length q
-unfolding readyIn reads seen
-read-nonempty ignore q e h = absurd (h refl)
-read-nonempty (any t) q e h = nonempty q (and-left (not (empty q)) _ e)
-read-nonempty (only t z) q e h = nonempty q (and-left (not (empty q)) _ e)
+read-nonempty p q e h = unfold readyIn seen in
+    cases (reads p) (λ c. nonempty q (and-left (not (empty q)) (matches p (oldest q)) (rw c at e))) (λ c. absurd (h (rw c)))
 
 ins-ready : (s : State) (ws : List ℕ) (ps : List Pattern) (w : ℕ) → readyIns s ws ps ≡ true → 1 ≤ length (onWire w (moves ws (look s ws (map reads ps)))) → 1 ≤ length (queue s w)
 unfolding look readyIns
@@ -99,14 +97,6 @@ guarded-fires en u k (Value t z) r e =
     cc
 guarded-fires en u k (Fault x) r e = let z : _≡_ {A = ℕ} 0 1 = cc in absurd (omega arith)
 
--- a rule that fires is the one that was tried, and is ready
-try-fires : (n : Net) (s : State) (b : Box) (o : Own) (k r : ℕ) → tryRule n s b (varsOf o) k ≡ fires r → (k ≡ r) × (readyRule n s b (rule b k) (varsOf o) ≡ true)
-try-fires n s b o k r e = unfold tryRule in
-    let u = rule b k in
-    let en = envOf n b u (look s (b .ins) (map reads (u .ins))) (varsOf o) in
-    let h = attempt-fires (readyRule n s b u (varsOf o)) (guarded en u k (valueOf en (u .guard))) r e in
-    (guarded-fires en u k (valueOf en (u .guard)) r (h .1), h .0)
-
 orElse-fires : {A : Type 0} (x y : Mark) (r : ℕ) → orElse x y ≡ fires r → (x ≡ fires r → A) → (y ≡ fires r → A) → A
 unfolding orElse
 orElse-fires quiet y r e f g = g e
@@ -125,12 +115,15 @@ unfolding upFrom count
 upFrom-in i zero j h = absurd (omega arith)
 upFrom-in i (suc c) j h = same-or i j (λ e. omega (arith, e)) (λ f. omega (arith, upFrom-in (suc i) c j (omega (arith, h, hit-other i j f))))
 
--- a marked box has a rule of that number, which is ready
+-- a marked box has a rule of that number: the one that was tried, which is ready
 pub rule-chosen : (n : Net) (s : State) (b : Box) (o : Own) (r : ℕ) → markOf n s (box b) o ≡ fires r → (r < length (b .rules)) × (readyRule n s b (rule b r) (varsOf o) ≡ true)
-rule-chosen n s b o r e = unfold markOf tried in
+rule-chosen n s b o r e = unfold markOf tried tryRule in
     let f = first-in (tryRule n s b (varsOf o)) (upFrom 0 (length (b .rules))) r e in
-    let q = try-fires n s b o (f .0) r (f .2) in
-    (omega (arith, q .0, upFrom-in 0 (length (b .rules)) (f .0) (f .1)), rw (q .0) at (q .1))
+    let u = rule b (f .0) in
+    let en = envOf n b u (look s (b .ins) (map reads (u .ins))) (varsOf o) in
+    let h = attempt-fires (readyRule n s b u (varsOf o)) (guarded en u (f .0) (valueOf en (u .guard))) r (f .2) in
+    let q = guarded-fires en u (f .0) (valueOf en (u .guard)) r (h .1) in
+    (omega (arith, q, upFrom-in 0 (length (b .rules)) (f .0) (f .1)), rw q at (h .0))
 
 pub flag-fires : (b : Bool) (r : ℕ) → flag b ≡ fires r → b ≡ true
 unfolding flag
@@ -170,11 +163,10 @@ marked-ready n one s sh fit m k r q e = unfold mark deed deedOf ruleOf in
 
 -- ── what is taken is the oldest ──────────────────────────────────────────────────────────────
 
-front : (q ts : List Token) → length ts ≡ 0 → 1 ≤ length q → (oldest q ∷ ts) ++ drop (suc (length ts)) q ≡ q
+front : (q : List Token) → 1 ≤ length q → oldest q ∷ drop 1 q ≡ q
 unfolding oldest
-front [] ts z h = absurd (omega arith)
-front (t ∷ q) [] z h = refl
-front (t ∷ q) (x ∷ ts) z h = absurd (omega arith)
+front [] h = absurd (omega arith)
+front (t ∷ q) h = refl
 
 took-front : (s : State) (ws : List ℕ) (ps : List Bool) (w : ℕ)
     → let t = onWire w (moves ws (look s ws ps)) in length t ≤ 1 → length t ≤ length (queue s w) → t ++ drop (length t) (queue s w) ≡ queue s w
@@ -185,7 +177,7 @@ took-front s (v ∷ ws) (false ∷ ps) w h g = took-front s ws ps w h g
 took-front s (v ∷ ws) (true ∷ ps) w h g =
     let t = onWire w (moves ws (look s ws ps)) in
     let l = length-joined (eqb v w) (oldest (queue s v)) t in
-    same-or v w (λ e. rw (e, eq-eqb w w refl) (front (queue s w) t (omega (arith, h, l, hit-same v w e)) (omega (arith, g, l, hit-same v w e))))
+    same-or v w (λ e. rw (e, eq-eqb w w refl, drop-of-length-le t {i = 0} (omega (arith, h, l, hit-same v w e))) (front (queue s w) (omega (arith, g, l, hit-same v w e))))
     (λ f. rw (ne-eqb v w f) (took-front s ws ps w (omega (arith, h, l)) (omega (arith, g, l))))
 
 -- ── one firing keeps the network sound ───────────────────────────────────────────────────────
@@ -197,18 +189,16 @@ module _ (f : List Deed → List Token) (g : Deed → List Token) (none′ : f [
   snoc (e ∷ ds) d = more e (ds ++ (d ∷ [])) ∙ rw (snoc ds d, more e ds) (sym (append-assoc (g e) (f ds) (g d)))
 
 module _ (n : Net) (m : ℕ → Mark) (one : OneEach n) where
-  -- the queue before, from what was taken and what is left
-  queue-split : (k : ℕ) (s : State) → Ready n m k s → (w : ℕ) → onWire w ((deed n m k s) .took) ++ drop (length (onWire w ((deed n m k s) .took))) (queue s w) ≡ queue s w
-  queue-split k s r w = unfold deed deedOf in took-front s (insOf (proc n k)) (readsOf (proc n k) (ruleOf (m k))) w ((moved-one n m one k s w) .0) (r .has w)
-
   pub sound-next : (k : ℕ) (s : State) (ds : List Deed) → Ready n m k s → Sound n s ds → Sound n (fire n m k s) (ds ++ (deed n m k s ∷ []))
-  sound-next k s ds r q = unfold putOn takenFrom in
+  sound-next k s ds r q = unfold putOn takenFrom deed deedOf in
       let d = deed n m k s in
       record {
         shape = unfold fire in length-act k d s ∙ q .shape;
         fits = λ w. omega (arith, length-fire n m one k s r w, r .room w);
         fifo = λ w. rw (snoc (putOn w) (λ e. onWire w (e .put)) refl (λ e es. refl) ds d, snoc (takenFrom w) (λ e. onWire w (e .took)) refl (λ e es. refl) ds d, queue-fire n m one k s r w)
-            (ap (λ (l : List Token). l ++ onWire w (d .put)) (q .fifo w ∙ ap (λ (l : List Token). takenFrom w ds ++ l) (sym (queue-split k s r w))) ∙ simp append-assoc);
+            (ap (λ (l : List Token). l ++ onWire w (d .put)) (q .fifo w ∙ ap (λ (l : List Token). takenFrom w ds ++ l) (sym
+            -- the queue before is what was taken and what is left
+            (took-front s (insOf (proc n k)) (readsOf (proc n k) (ruleOf (m k))) w ((moved-one n m one k s w) .0) (r .has w)))) ∙ simp append-assoc);
       }
 
   -- the first firings of an order: what each keeps holds after them, and what is true of the deeds of the others, which are due then

@@ -1,8 +1,8 @@
 -- Several tests that hold together, each by itself.
 -- Assumes nothing.
 use mathlib.Core.Path.{_≡_, refl}
-use mathlib.Core.Logic.{_≢_, _⊎_, inl, inr}
-use mathlib.Core.Bool.{Bool, true, false, not, _&&_, _||_}
+use mathlib.Core.Logic.{_≢_}
+use mathlib.Core.Bool.{Bool, true, false, not, _&&_}
 use Prim.Native.Nat.{ℕ}
 use native.Mathlib.Omega.{arith}
 use lib.Dec.{eqb}
@@ -35,10 +35,6 @@ and₅ a b c d f e = let h = and₄ a b c d (and-left (a && b && c && d) f e) in
 pub not-true : (a : Bool) → not a ≡ true → a ≡ false
 not-true true e = let z : _≡_ {A = ℕ} 0 1 = cc in absurd (omega arith)
 not-true false e = refl
-
-pub or-true : (a b : Bool) → (a || b) ≡ true → (a ≡ true) ⊎ (b ≡ true)
-or-true true b e = inl refl
-or-true false b e = inr e
 
 -- by cases of a test, and of two numbers, the same or not
 pub cases : {A : Type 0} (b : Bool) → (b ≡ true → A) → (b ≡ false → A) → A

@@ -85,9 +85,6 @@ same-type t u e = unfold sameType in
     let h = and₂ (eqb (t .kind) (u .kind)) (eqb (t .p) (u .p)) e in
     λ i. record { kind = (eqb-true (t .kind) (u .kind) (h .0)) i; p = (eqb-true (t .p) (u .p) (h .1)) i }
 
-fine-bool : Fine bool
-fine-bool = unfold isPlain wellSized isBool bool in record { plain = refl; low = omega arith }
-
 -- a fine bool is bool
 is-bool : (t : Ty) → Fine t → isBool t ≡ true → t ≡ bool
 is-bool t f e = unfold isBool isPlain wellSized bool in
@@ -135,6 +132,7 @@ two-of o t a b h = unfold apply in
 
 two-good : (o : ℕ) (t u v : Ty) (a b : ℤ) → Fine t → twoType o t u ≡ typed v → Good v (apply o t a b)
 two-good o t u v a b f e = unfold twoType in
+    let fine-bool : Fine bool = unfold isPlain wellSized isBool bool in record { plain = refl; low = omega arith } in
     let good : (c : Bool) (w : Ty) → cond (leb o 19) t bool ≡ w → judged c w ≡ typed v → Good v (apply o t a b)
     = λ c w k q. judged-good c w v (apply o t a b) q (λ h. rw (← k) (cond-keeps Fine (leb o 19) t bool f fine-bool, two-of o t a b (f .low))) in
     cases (leb o 17) (λ c. good _ t (rw (le-leb o 19 (omega (arith, leb-true o 17 c)))) (rw c at e))

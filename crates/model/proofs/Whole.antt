@@ -179,9 +179,11 @@ module _ (f : Proc → List ℕ) where
       omega (arith, count-append w (f p) (ports f ps), count-none c (f p) (a 0 (omega arith)) w h, ports-none c ps (λ k g. a (suc k) (omega (arith, g))) w h)
 
   -- so no wire has two of them, where each wire that is there has one
-  ports-one : (c : ℕ) (ps : List Proc) → Each (λ p. Each (λ w. w < c) 0 (f p)) nobody ps → ((w : ℕ) → w < c → eqb (count w (ports f ps)) 1 ≡ true) → (w : ℕ) → count w (ports f ps) ≤ 1
-  ports-one c ps a one w =
-      cases (ltb w c) (λ h. omega (arith, eqb-true (count w (ports f ps)) 1 (one w (ltb-true w c h)))) (λ h. omega (arith, ports-none c ps a w (ltb-false w c h)))
+  ports-one : (n : Net) → let c = length (n .wires) in let ps = n .procs in
+      Each (λ p. Each (λ w. w < c) 0 (f p)) nobody ps → ((w : ℕ) → w < c → eqb (count w (ports f ps)) 1 ≡ true) → (w : ℕ) → count w (ports f ps) ≤ 1
+  ports-one n a one w =
+      let c = length (n .wires) in
+      cases (ltb w c) (λ h. omega (arith, eqb-true (count w (ports f (n .procs))) 1 (one w (ltb-true w c h)))) (λ h. omega (arith, ports-none c (n .procs) a w (ltb-false w c h)))
 
   ports-append : (ps qs : List Proc) → ports f (ps ++ qs) ≡ ports f ps ++ ports f qs
   unfolding ports
@@ -207,12 +209,10 @@ proc-ports n (output w room) g = (λ k h. (let e : k ≡ 0 = omega (arith, h) in
 
 -- exactly one reading and one writing port a wire
 pub one-each : (n : Net) → GoodNet n → ((w : ℕ) → w < length (n .wires) → portsFit (n .procs) w ≡ true) → OneEach n
-one-each n g fit = unfold portsFit in
-    let once : (w : ℕ) → w < length (n .wires) → (eqb (count w (ports insOf (n .procs))) 1 ≡ true) × (eqb (count w (ports outsOf (n .procs))) 1 ≡ true) = λ w h. and₂ _ _ (fit w h) in
-    record {
-      readers = ports-one insOf (length (n .wires)) (n .procs) (λ k h. (proc-ports n (getD (n .procs) k nobody) (g .procs k h)) .0) (λ w h. (once w h) .0);
-      writers = ports-one outsOf (length (n .wires)) (n .procs) (λ k h. (proc-ports n (getD (n .procs) k nobody) (g .procs k h)) .1) (λ w h. (once w h) .1);
-    }
+one-each n g fit = unfold portsFit in record {
+  readers = ports-one insOf n (λ k h. (proc-ports n (getD (n .procs) k nobody) (g .procs k h)) .0) (λ w h. (and₂ (eqb (count w (ports insOf (n .procs))) 1) _ (fit w h)) .0);
+  writers = ports-one outsOf n (λ k h. (proc-ports n (getD (n .procs) k nobody) (g .procs k h)) .1) (λ w h. (and₂ (eqb (count w (ports insOf (n .procs))) 1) _ (fit w h)) .1);
+}
 
 -- ── an accepted network with an accepted token file ──────────────────────────────────────────
 

@@ -1,4 +1,5 @@
--- The workbook's examples, P1 to P12, and an example of each refusal number: computed from the definitions, on bytes.
+-- The workbook's examples, P1 to P12, an example of each refusal number, and for each call two refusals that are both due: computed from
+-- the definitions, on bytes.
 -- Assumes nothing.
 use Prim.Native.Nat.{ℕ, zero, suc}
 use mathlib.Core.Path.{_≡_, refl}
@@ -10,7 +11,8 @@ use Rattle.model.specs.declared.Outcome.{Outcome}
 use Rattle.model.specs.declared.Outcome.the-variants.{Value, Fault}
 use Rattle.model.specs.Bytes.{valueBytes}
 use Rattle.model.specs.Expressions.{Read, bad, got, Exp, expression, valueOf}
-use Rattle.model.specs.Calls.{Answer, marks, idle, spent, refused, checkCall, loadCall, markCall, cycleCall, runCall, writeCall}
+use Rattle.model.specs.NetworkFile.{Stretch}
+use Rattle.model.specs.Calls.{Answer, marks, idle, spent, refused, checkCall, bodyCall, loadCall, markCall, cycleCall, runCall, writeCall}
 use Rattle.model.specs.Printing.{printed}
 use Rattle.model.specs.Opened.{opened}
 
@@ -60,6 +62,7 @@ data Shown : Type 0 where
   answers : Answer → Shown
   works : Outcome → Shown
   prints : List ℕ → Shown
+  lies : Stretch → Shown
 
 record Row : Type 0 where
   shown : Shown
@@ -186,3 +189,37 @@ refusals =
 refusal-examples : map (λ (r : Row). r .shown) refusals ≡ map (λ (r : Row). r .stated) refusals
 unfolding refusals
 refusal-examples = refl
+
+-- ── two refusals due: the earlier of document 01's order ─────────────────────────────────────
+
+-- an answer, and the number and the place that are due
+unfoldable due : Answer → ℕ → ℕ → Row
+due a n p = record { shown = answers a; stated = answers (refused n p 0) }
+
+unfoldable in-order : List Row
+unfolding through none-for-one by-zero due opened
+in-order =
+    -- check: a wire of an unknown kind with p = 0 (1 before 2)
+    due (checkCall (1 ∷ 0 ∷ 3 ∷ 5 ∷ 0 ∷ 1 ∷ [])) 1 0
+    -- rule_body: a wire without ports, and a box with its rule: the network is refused before the rule is looked up
+    ∷ record { shown = lies (bodyCall (1 ∷ 0 ∷ 3 ∷ 1 ∷ 8 ∷ 1 ∷ by-zero) 0 0); stated = lies (record { start = 38; len = 0 }) }
+    -- load: a byte after the field of the one input, no byte of 15 lent (5 before 6)
+    ∷ due ((loadCall through (none-for-one ++ (0 ∷ [])) []) .answer) 5 3
+    -- mark: one byte of 15 lent, two tokens on a wire of capacity 1 (6 before 7)
+    ∷ due ((markCall through none-for-one (2 ∷ [])) .answer) 6 15
+    -- cycle: a fault, and an order that names the box, which is not marked (9 before 8)
+    ∷ due ((cycleCall by-zero [] [] (0 ∷ [])) .answer) 9 0
+    -- run: a budget of 65,536, a field cut short (2 before 1)
+    ∷ due ((runCall (1 ∷ []) [] [] 65536) .answer) 2 0
+    -- write_outputs: two tokens on a wire of capacity 1, no byte of 3 lent for the file (7 before 6)
+    ∷ due ((writeCall through (2 ∷ replicate 14 0) []) .answer) 7 0
+    ∷ []
+
+refusals-in-order : map (λ (r : Row). r .shown) in-order ≡ map (λ (r : Row). r .stated) in-order
+unfolding in-order
+refusals-in-order = refl
+
+-- and the length of a file before its fields, which are of unknown tags here
+length-first : checkCall (replicate 16385 9) ≡ refused 2 0 0
+unfolding opened
+length-first = refl

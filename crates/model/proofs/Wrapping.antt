@@ -99,14 +99,12 @@ pow-30 h = pow-mono h
 
 -- ── four bytes ───────────────────────────────────────────────────────────────────────────────
 
-four-bytes : (n : ℕ) → n < 4294967296 → fourAt (fourBytes n) 0 ≡ n
-four-bytes n l = unfold fourAt fourBytes in omega arith
-
 mag-between : (z : ℤ) → mag z < 2147483648 → between 2147483648 z ≡ true
 mag-between (pos n) l = le-leb n 2147483647 (omega arith)
 mag-between (negsuc n) l = rw (le-leb n 2147483647 (omega arith))
 
 -- a four-byte value is written and read back
 pub value-bytes : (z : ℤ) → mag z < 2147483648 → valueAt (valueBytes z) 0 ≡ z
-value-bytes z h = unfold valueAt valueBytes signedOf in
-    rw (four-bytes (modZ z 4294967296) (modZ-lt z 4294967296 (lit< tt))) (signed-back z 2147483648 4294967296 (lit< tt) (omega arith) (mag-between z h))
+value-bytes z h = unfold valueAt valueBytes signedOf fourAt fourBytes in
+    let back : fourAt (fourBytes (modZ z 4294967296)) 0 ≡ modZ z 4294967296 = omega (arith, modZ-lt z 4294967296 (lit< tt)) in
+    rw back (signed-back z 2147483648 4294967296 (lit< tt) (omega arith) (mag-between z h))
