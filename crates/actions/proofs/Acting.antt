@@ -16,16 +16,17 @@ use Rattle.model.specs.Expressions.{Exp, Read, bad, got, readMany, expression, 
 use Rattle.model.specs.Rules.{Action, nothing, bare, send, bareAction, sentTag, holdsExpression, readAction}
 use Rattle.model.specs.Cycles.{orZero, result, newVar}
 use Rattle.model.proofs.Tests.{and₂}
-use Rattle.expressions.specs.declared.Form.the-variants.{Bytes, Malformed}
-use Rattle.expressions.specs.Reading.{limitsRead}
+use Rattle.expressions.specs.declared.Form.the-variants.{Bytes}
+use Rattle.expressions.specs.Reading.{endFrom, isRead, skipTo, limitsRead}
 use Rattle.expressions.proofs.Heads.{head-at}
 use Rattle.types.specs.Scopes.{placed, typedAt}
-use Rattle.rules.specs.Bodies.{actionCodes, actionsFrom, endAt, sentLimits, limitsOf}
+use Rattle.rules.proofs.Ends.{action-there, action-skip}
+use Rattle.rules.specs.Bodies.{actionCodes, anyCode, actionsFrom, sentLimits, limitsOf}
 use Rattle.evaluation.specs.declared.Evaluated.{Evaluated}
 use Rattle.evaluation.specs.declared.Evaluated.the-variants as evaluated
 use Rattle.evaluation.specs.Envs.{outcomeAt, valuedAt, isTyped}
 use Rattle.typing.specs.Fits.{listRead, expRead, actionAt}
-use Rattle.typing.proofs.Peeling.{Peel, peel, not-bad}
+use Rattle.typing.proofs.Peeling.{Peel, peel, first-read}
 use Rattle.typing.proofs.Actions.{action-read, action-inside, first-limits, limits-read}
 use Rattle.actions.specs.declared.Sending.the-variants as sending
 use Rattle.actions.specs.declared.Faults.{Faults}
@@ -146,14 +147,22 @@ pub record First (sc : Scope) (v : Bool) (b : List ℕ) (k at end : ℕ) : Type 
   pub limits : sentLimits (drop at b) ≡ true
   pub typed : sentTyped sc (actionAt (drop at b)) ≡ true
   pub list : listRead (actionsFrom v k at b) ≡ actionAt (drop at b) ∷ listRead (actionsFrom v (k - 1) end b)
+  pub ends : endFrom at (readAction (actionCodes v) (drop at b)) ≡ Bytes end
   pub rest : Ready sc v b (k - 1) end
 
 module _ (sc : Scope) (v : Bool) (b : List ℕ) (k at : ℕ) (h : 0 < k) (x : Ready sc v b k at) where
-  pub ready-there : endAt at (readAction (actionCodes v) (drop at b)) ≡ Malformed → ⊥
+  is-read : isRead (readAction (actionCodes v) (drop at b)) ≡ true
   unfolding actionsFrom
-  ready-there e = not-bad (readAction (actionCodes v)) b k at h (limits-read _ (x .limits)) e
+  is-read = first-read (readAction (actionCodes v)) b k at h (limits-read _ (x .limits))
 
-  module _ (end : ℕ) (g : endAt at (readAction (actionCodes v) (drop at b)) ≡ Bytes end) where
+  -- it can be skipped
+  pub ready-there : isRead (readAction anyCode (drop at b)) ≡ true
+  ready-there = action-there (actionCodes v) b at is-read
+
+  module _ (end : ℕ) (q : end ≡ skipTo at (readAction anyCode (drop at b))) where
+    g : endFrom at (readAction (actionCodes v) (drop at b)) ≡ Bytes end
+    g = action-skip (actionCodes v) b at is-read end q
+
     peeled : Peel (readAction (actionCodes v)) b k at end
     unfolding actionsFrom
     peeled = peel (readAction (actionCodes v)) b k at end h (limits-read _ (x .limits)) g
@@ -167,7 +176,7 @@ module _ (sc : Scope) (v : Bool) (b : List ℕ) (k at : ℕ) (h : 0 < k) (x : Re
     ready-first =
         let l = first-limits v b k at end h (x .limits) g in
         let t = and₂ (sentTyped sc (actionAt (drop at b))) (allTyped sc (listRead (actionsFrom v (k - 1) end b))) (sym (ap (allTyped sc) list-is) ∙ x .typed) in
-        record { inside = action-inside v b at end g; limits = l .0; typed = t .0; list = list-is; rest = record { limits = l .1; typed = t .1 } }
+        record { inside = action-inside v b at end g; limits = l .0; typed = t .0; list = list-is; ends = g; rest = record { limits = l .1; typed = t .1 } }
 
 -- ── the first fault ──────────────────────────────────────────────────────────────────────────
 

@@ -1,6 +1,5 @@
 // A rule's guard and actions, each worked out from the part of the rule body where it begins.
 use evaluation::Evaluated;
-use expressions::Form;
 use model::Outcome;
 use model::Token;
 ghost use mathlib.Core.Path.{_≡_};
@@ -137,14 +136,12 @@ pub fn actions_fault(
     let mut at = from;
     let mut k = 0;
     while k < n {
-        let Form::Bytes(end) = rules::action_end(b, at, var) else {
-            return Faults::Clear;
-        };
+        let next = rules::skip_action(b, at);
         let f = action_fault(b, at, vals, types);
         let Faults::Clear = f else {
             return f;
         };
-        at = end;
+        at = next;
         k += 1;
     }
     Faults::Clear

@@ -13,26 +13,15 @@ use borrow.Author.Tests.{le-ltb}
 use Rattle.model.specs.declared.Ty.{Ty}
 use Rattle.model.specs.declared.Outcome.the-variants.{Value}
 use Rattle.model.specs.Bytes.{valueAt}
-use Rattle.model.specs.Expressions.{Exp, Read, bad, got, headSize, typeAt, build, expression, valueOf}
+use Rattle.model.specs.Expressions.{headSize, typeAt, build, expression, valueOf}
 use Rattle.expressions.specs.declared.Form.the-variants as form
-use Rattle.expressions.specs.Reading.{endFrom}
 use Rattle.expressions.proofs.Leaves.{Leaf, leaf-there, leaf-read, leaf-two}
 use Rattle.expressions.proofs.Shapes.{build-literal, build-matched, build-variable}
 use Rattle.types.proofs.Judging.{type-drop}
 use Rattle.types.proofs.Leaves.{value-drop, ins-is, vars-is, namedIn}
 use Rattle.evaluation.specs.declared.Evaluated.{Evaluated}
 use Rattle.evaluation.specs.declared.Evaluated.the-variants as evaluated
-use Rattle.evaluation.specs.Envs.{envIn, outcomeAt, valuedAt, skipTo}
-
-pub skip-bytes : (at : ℕ) (r : Read Exp) {m : ℕ} → endFrom at r ≡ form.Bytes m → m ≡ skipTo at r
-unfolding endFrom skipTo
-skip-bytes at bad e = absurd (let z : _≡_ {A = ℕ} 0 1 = cc in omega arith)
-skip-bytes at (got x n) e = cc
-
-pub skip-bad : (at : ℕ) (r : Read Exp) → endFrom at r ≡ form.Malformed → at ≡ skipTo at r
-unfolding endFrom skipTo
-skip-bad at bad e = refl
-skip-bad at (got x n) e = absurd (let z : _≡_ {A = ℕ} 0 1 = cc in omega arith)
+use Rattle.evaluation.specs.Envs.{envIn, outcomeAt, valuedAt}
 
 ins-kept : (vs : List ℤ) (ts : List ℕ) (i : ℕ) → getD (envIn vs ts .ins) i (pos 0) ≡ cond (ltb i 4) (getD vs (0 + i) (pos 0)) (pos 0)
 unfolding envIn

@@ -20,7 +20,7 @@ use Rattle.model.specs.Expressions.{Exp, Read, got, operands, typeAt, build, ex
 use Rattle.model.proofs.Tests.{and-right}
 use Rattle.values.proofs.Machine.{back}
 use Rattle.values.proofs.Results.{Small, Sound}
-use Rattle.expressions.specs.Reading.{shallow, fitsAt}
+use Rattle.expressions.specs.Reading.{isRead, skipTo, shallow, fitsAt}
 use Rattle.expressions.proofs.Heads.{named-precise}
 use Rattle.expressions.proofs.Depths.{four-up}
 use Rattle.expressions.proofs.Shapes.{one-operand, two-operands, three-operands, at-most-three, build-cast, build-one, build-two, build-if}
@@ -30,7 +30,7 @@ use Rattle.types.specs.Scopes.{scopeIn, placed, typedAt}
 use Rattle.types.proofs.Judging.{Typeds, typed-built, typeds-at, type-drop}
 use Rattle.evaluation.specs.declared.Evaluated.{Evaluated}
 use Rattle.evaluation.specs.declared.Evaluated.the-variants as evaluated
-use Rattle.evaluation.specs.Envs.{envIn, EnvFits, outcomeAt, valuedAt, skipTo, isTyped}
+use Rattle.evaluation.specs.Envs.{envIn, EnvFits, outcomeAt, valuedAt, isTyped}
 use Rattle.evaluation.proofs.Sound.{sound}
 
 -- ── what an answer says of the expression there ──────────────────────────────────────────────
@@ -189,6 +189,10 @@ module _ {w : Work} {done : List Exp} {k at : ℕ} (o : Operand w done k at) whe
       let y = is-typed (scope w) at (readAt w at) (o .next .read) (o .typed) in
       (omega (arith, e, deep (w .call)), (o .next .inside, (o .next .fits, (y, w .ok))))
 
+  pub is-there : isRead (readAt w at) ≡ true
+  unfolding isRead
+  is-there = rw (o .next .read)
+
   faulted : {q : ℕ} → answerAt w at ≡ evaluated.Fault q → valueOf (env w) its ≡ Fault q
   faulted y = fault-there (env w) at (readAt w at) (o .next .read) y
 
@@ -198,9 +202,6 @@ module _ {w : Work} {done : List Exp} {k at : ℕ} (o : Operand w done k at) whe
 
     ends : at + o .next .n ≡ n
     ends = value-there (env w) at (readAt w at) (o .next .read) y .1
-
-    pub ends-inside : n ≤ length (w .call .s)
-    ends-inside = omega (arith, ends, o .next .onward .inside)
 
     pub small : Small t z
     unfolding fitsAt shallow Sound
@@ -250,6 +251,7 @@ pub record Chosen (w : Work) (t : Ty) (z : ℤ) (f : ℕ) : Type 0 where
   pub it : Operand w done left f
   pub two : w .call .k ≡ 2 → whole w ≡ outcomeAt (f + it .next .n) (then (valueOf (env w) (it .next .e)) (λ v y. apply (w .call .c) t z y))
   pub three : w .call .k ≡ 3 → whole w ≡ outcomeAt (ifEnd w z (f + it .next .n)) (valueOf (env w) (it .next .e))
+  pub more : w .call .k ≡ 3 → eqZ z (pos 0) ≡ false → isRead (readAt w (f + it .next .n)) ≡ true
 
 module _ {w : Work} {t : Ty} {z : ℤ} {n : ℕ} (g : First w t z n) (l : 0 < w .call .k - 1) where
   second : Operand w (g .e ∷ []) (w .call .k - 1) n
@@ -280,6 +282,7 @@ module _ {w : Work} {t : Ty} {z : ℤ} {n : ℕ} (g : First w t z n) (l : 0 < w 
     it = second;
     two = two-whole;
     three = λ e. absurd (eqb-false (w .call .k) 3 p e);
+    more = λ e. absurd (eqb-false (w .call .k) 3 p e);
   }
   chosen-by true false p r q = rw q record {
     done = g .e ∷ [];
@@ -287,6 +290,7 @@ module _ {w : Work} {t : Ty} {z : ℤ} {n : ℕ} (g : First w t z n) (l : 0 < w 
     it = second;
     two = λ e. absurd (omega (arith, e, eqb-true (w .call .k) 3 p));
     three = λ e. if-whole e ∙ rw (r, skip-there (env w) after (readAt w after) (third e .next .read));
+    more = λ e u. is-there (third e);
   }
   chosen-by true true p r q =
       let three = eqb-true (w .call .k) 3 p in
@@ -296,6 +300,7 @@ module _ {w : Work} {t : Ty} {z : ℤ} {n : ℕ} (g : First w t z n) (l : 0 < w 
         it = third three;
         two = λ e. absurd (omega (arith, e, three));
         three = λ e. if-whole three ∙ rw r;
+        more = λ e u. let i : _≡_ {A = ℕ} 0 1 = cc in absurd (omega arith);
       }
 
   pub chosen : {f : ℕ} {y : ℤ} → y ≡ z → f ≡ cond (eqb (w .call .k) 3 && eqZ y (pos 0)) (skipTo n (readAt w n)) n → Chosen w t z f
@@ -318,3 +323,7 @@ module _ {w : Work} {t : Ty} {z : ℤ} {f : ℕ} (g : Chosen w t z f) where
     pub exit-if : {i j : ℤ} {to : ℕ} → w .call .k ≡ 3 → i ≡ z → j ≡ y → to ≡ ifEnd w i m → evaluated.Value u j to ≡ whole w
     unfolding outcomeAt
     exit-if e p q r = rw (r, p, q) (sym (g .three e ∙ rw (worked (g .it) a, ends (g .it) a)))
+
+    -- where the first operand is not 0, the branch for false stands behind the one that was worked out
+    pub if-more : {i : ℤ} → w .call .k ≡ 3 → i ≡ z → eqZ i (pos 0) ≡ false → isRead (readAt w m) ≡ true
+    if-more e p u = rw (← ends (g .it) a) (g .more e (rw p at u))

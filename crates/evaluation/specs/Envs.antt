@@ -2,12 +2,11 @@
 -- Assumes nothing.
 use Prim.Native.Nat.{ℕ, _+_, _^_, _≤_}
 use mathlib.Core.Path.{_≡_}
-use mathlib.Core.Bool.{Bool, true, false, cond}
+use mathlib.Core.Bool.{Bool, true, false}
 use mathlib.Core.List.{List, [], _∷_}
 use lib.IntN.{ℤ, pos}
 use lib.ListN.{getD}
 use lib.Signed.{mag}
-use Rattle.model.specs.declared.Ty.{Ty}
 use Rattle.model.specs.declared.Outcome.{Outcome}
 use Rattle.model.specs.declared.Outcome.the-variants as outcome
 use Rattle.model.specs.Values.{isPlain, noType}
@@ -35,10 +34,6 @@ outcomeAt next (outcome.Fault n) = evaluated.Fault n
 unfoldable pub valuedAt : Env → ℕ → Read Exp → Evaluated
 valuedAt en at bad = evaluated.Fault 0
 valuedAt en at (got e n) = outcomeAt (at + n) (valueOf en e)
-
-unfoldable pub skipTo : ℕ → Read Exp → ℕ  -- the offset after it
-skipTo at bad = at
-skipTo at (got e n) = at + n
 
 unfoldable pub isTyped : Typing → Bool  -- a type, no fault
 isTyped (typing.Typed t n) = true

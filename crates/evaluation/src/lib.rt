@@ -1,9 +1,8 @@
 // The value of an expression that keeps the limits and has a type, worked out from its operands.
-use expressions::Form;
 use model::Outcome;
 use model::Ty;
 ghost use mathlib.Core.Path.{_≡_};
-ghost use mathlib.Core.Bool.{true, cond, _&&_};
+ghost use mathlib.Core.Bool.{true, false, cond, _&&_};
 ghost use Prim.Native.Nat.{_+_, _≤_, _^_};
 ghost use lib.Dec.{eqb, ltb};
 ghost use lib.IntN.{pos};
@@ -11,9 +10,9 @@ ghost use lib.ListN.{length, getD, drop};
 ghost use lib.Signed.{mag};
 ghost use Rattle.model.specs.Values.{wrap, eqZ, apply, applyOne};
 ghost use Rattle.model.specs.Expressions.{expression, operands, headFits};
-ghost use Rattle.expressions.specs.Reading.{fitsAt, limitsRead};
+ghost use Rattle.expressions.specs.Reading.{isRead, skipTo, fitsAt, limitsRead};
 ghost use Rattle.types.specs.Scopes.{scopeIn, typedAt};
-ghost use Rattle.evaluation.specs.Envs.{envIn, EnvFits, outcomeAt, valuedAt, skipTo, isTyped};
+ghost use Rattle.evaluation.specs.Envs.{envIn, EnvFits, outcomeAt, valuedAt, isTyped};
 
 // A value with its type and the offset after the expression, or a fault with its number.
 pub enum Evaluated {
@@ -111,38 +110,26 @@ fn two_value(c: u8, t: Ty, x: i64, y: i64, next: usize) -> Evaluated
     placed(values::apply(c, t, x, y), next)
 }
 
-// The offset after the expression at an offset.
-fn skip(s: &[u8], at: usize) -> usize
-    requires { ⌜ at ≤ length (now s) ⌝ }
-    ensures { λ r. ⌜ r ≡ skipTo at (expression (drop at (now (s .entry)))) ⌝ }
-{
-    let f = expressions::end_of(s, at);
-    match f {
-        Form::Bytes(n) => n,
-        Form::Malformed => at,
-    }
-}
-
 // Where the second operand to work out begins: the branch for false comes after the one for true.
 fn second_from(s: &[u8], k: usize, x: i64, at: usize) -> usize
-    requires { ⌜ at ≤ length (now s) ⌝ }
+    requires { ⌜ isRead (expression (drop at (now s))) ≡ true ⌝ }
     ensures { λ r. ⌜ r ≡ cond (eqb k 3 && eqZ x (pos 0)) (skipTo at (expression (drop at (now (s .entry))))) at ⌝ }
 {
     if (k == 3) & (x == 0) {
-        return skip(s, at);
+        return expressions::skip(s, at);
     }
     at
 }
 
 // Where an if ends, the branch that was worked out ending at an offset.
 fn if_end(s: &[u8], x: i64, at: usize) -> usize
-    requires { ⌜ at ≤ length (now s) ⌝ }
+    requires { ⌜ (eqZ x (pos 0) ≡ false → isRead (expression (drop at (now s))) ≡ true) ⌝ }
     ensures { λ r. ⌜ r ≡ cond (eqZ x (pos 0)) at (skipTo at (expression (drop at (now (s .entry))))) ⌝ }
 {
     if x == 0 {
         return at;
     }
-    skip(s, at)
+    expressions::skip(s, at)
 }
 
 // The value of the expression at an offset, of a depth that is at most `depth`.

@@ -176,7 +176,7 @@ bounded-at (suc d) s =
     let v = drop (headSize c) s in
     let w = within-many (λ u. readExp d u) (λ u. all-map (readExp d u) (λ e n w. w .1) (bounded-at d u)) (operands c) v in
     bounded-if (headFits s) s (behind (λ u. readExp d u) s) refl
-    (λ e. bounded-got s (headSize c) (build s) (readMany (λ u. readExp d u) (operands c) v) (head-pos c) (omega (arith, fits-whole s 0 c refl e (omega arith))) (rw (length-drop (headSize c) s) at w))
+    (λ e. bounded-got s (headSize c) (build s) (readMany (λ u. readExp d u) (operands c) v) (head-pos c) (omega (arith, fits-whole s 0 c refl e)) (rw (length-drop (headSize c) s) at w))
 
 pub bounded : (s : List ℕ) → Bounded s (expression s)
 unfolding expression

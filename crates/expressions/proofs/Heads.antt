@@ -69,9 +69,9 @@ module _ (s : List ℕ) (at c : ℕ) (h : c ≡ getD s at 0) where
   precise-plain e = rw (head-is, e)
 
   -- a head that fits is whole
-  pub fits-whole : headFits (drop at s) ≡ true → at ≤ length s → at + headSize c ≤ length s
+  pub fits-whole : headFits (drop at s) ≡ true → at + headSize c ≤ length s
   unfolding headFits
-  fits-whole e l =
+  fits-whole e =
       let w = first-third (ltb 0 (length (drop at s))) (knownCode (getD (drop at s) 0 0)) (leb (headSize (getD (drop at s) 0 0)) (length (drop at s))) (knownKind (getD (drop at s) 0 0) (getD (drop at s) 1 0)) e in
       let v : headSize c ≤ length (drop at s) = rw head-is at (leb-true (headSize (getD (drop at s) 0 0)) (length (drop at s)) (w .1)) in
       omega (arith, length-drop at s, ltb-true 0 (length (drop at s)) (w .0), head-pos c)

@@ -37,7 +37,7 @@ module _ (x : Leaf) where
   leaf-read = some-exp (drop (x .at) (x .s)) (x .whole) ∙ rw (leaf-there, leaf-bare)
 
   pub leaf-inside : x .at + 1 ≤ length (x .s)
-  leaf-inside = omega (arith, fits-whole (x .s) (x .at) (x .c) (x .head) (x .whole) (x .inside), head-pos (x .c))
+  leaf-inside = omega (arith, fits-whole (x .s) (x .at) (x .c) (x .head) (x .whole), head-pos (x .c))
 
   pub leaf-two : (x .c ≡ 0 → ⊥) → (x .c ≡ 1 → ⊥) → x .c ≡ 2
   leaf-two e f = two-left (x .c) (no-operand (x .c) leaf-bare) e f

@@ -12,7 +12,7 @@ use borrow.Author.Tests.{le-ltb}
 use Rattle.model.specs.Expressions.{Exp, Read, bad, got, after, readMany, headSize, operands, headFits, build, provided, readExp, expression}
 use Rattle.expressions.specs.declared.Form.{Form}
 use Rattle.expressions.specs.declared.Form.the-variants.{Bytes, Malformed}
-use Rattle.expressions.specs.Reading.{sizeRead, endFrom}
+use Rattle.expressions.specs.Reading.{endFrom, isRead, skipTo}
 
 -- ── the head ─────────────────────────────────────────────────────────────────────────────────
 
@@ -195,7 +195,16 @@ module _ (s : List ℕ) where
   done zero at l = ends-none at
   done (suc p) at l = absurd (omega arith)
 
-pub size-end : (r : Read Exp) → endFrom 0 r ≡ sizeRead r
-unfolding endFrom sizeRead
-size-end bad = refl
-size-end (got e n) = ap Bytes (omega arith)
+  -- where p expressions end at e, the first has a head
+  pub goes-on : (p at e : ℕ) → 0 < p → ends p at s ≡ Bytes e → headFits (drop at s) ≡ true
+  goes-on p at e l h = by-head (headFits (drop at s)) refl
+    where
+      by-head : (b : Bool) → headFits (drop at s) ≡ b → headFits (drop at s) ≡ true
+      by-head true g = g
+      by-head false g = let z : Malformed ≡ Bytes e = sym (halt p at l g) ∙ h in let z′ : _≡_ {A = ℕ} 0 1 = cc in absurd (omega arith)
+
+-- what is there ends where it is skipped to
+pub skip-is : {A : Type 0} (at : ℕ) (r : Read A) → isRead r ≡ true → endFrom at r ≡ Bytes (skipTo at r)
+unfolding endFrom isRead skipTo
+skip-is at bad e = let z : _≡_ {A = ℕ} 0 1 = cc in absurd (omega arith)
+skip-is at (got a n) e = refl

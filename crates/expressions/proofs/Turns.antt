@@ -59,7 +59,7 @@ module _ (x : Call) where
   no-operands e = rw (sym (x .head)) (sym (x .count) ∙ e)
 
   pub head-inside : x .at + headSize (x .c) ≤ length (x .s)
-  head-inside = fits-whole (x .s) (x .at) (x .c) (x .head) whole (x .inside)
+  head-inside = fits-whole (x .s) (x .at) (x .c) (x .head) whole
 
 -- how many are left, as the tests on k give it
 pub two-up : (k : ℕ) → (k ≡ 0 → ⊥) → (k ≡ 1 → ⊥) → 0 < k - 1

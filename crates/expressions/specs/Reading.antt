@@ -1,8 +1,8 @@
 -- What the readers of an expression say of the one that stands in the bytes.
 -- Assumes nothing.
-use Prim.Native.Nat.{ℕ, zero, suc, _+_, _-_, _*_}
+use Prim.Native.Nat.{ℕ, _+_, _-_}
 use mathlib.Core.Bool.{Bool, true, false, not, cond, _&&_, _||_}
-use mathlib.Core.List.{List, [], _∷_}
+use mathlib.Core.List.{List}
 use lib.Dec.{leb, eqb}
 use lib.ListN.{getD}
 use Rattle.model.specs.Values.{inPrecision}
@@ -10,14 +10,18 @@ use Rattle.model.specs.Expressions.{Exp, Read, bad, got, depthOf, precise, expr
 use Rattle.expressions.specs.declared.Form.{Form}
 use Rattle.expressions.specs.declared.Form.the-variants.{Bytes, Malformed}
 
-unfoldable pub sizeRead : Read Exp → Form  -- its bytes
-sizeRead bad = Malformed
-sizeRead (got e n) = Bytes n
-
 -- the offset after what was read at an offset
 unfoldable pub endFrom : {A : Type 0} → ℕ → Read A → Form
 endFrom at bad = Malformed
 endFrom at (got a n) = Bytes (at + n)
+
+unfoldable pub isRead : {A : Type 0} → Read A → Bool  -- it is there
+isRead bad = false
+isRead (got a n) = true
+
+unfoldable pub skipTo : {A : Type 0} → ℕ → Read A → ℕ  -- the same of what is known to be there
+skipTo at bad = at
+skipTo at (got a n) = at + n
 
 -- a literal and a cast name a precision
 unfoldable pub preciseHead : List ℕ → Bool

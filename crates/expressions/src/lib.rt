@@ -1,12 +1,13 @@
 // Prefix expressions on bytes: their form at any depth, and their limits.
 use model::Ty;
 ghost use mathlib.Core.Path.{_≡_};
+ghost use mathlib.Core.Bool.{true};
 ghost use Prim.Native.Nat.{_+_, _≤_, _<_, _^_};
 ghost use lib.ListN.{length, getD, drop};
 ghost use lib.Signed.{mag};
 ghost use Rattle.model.specs.Bytes.{valueAt};
 ghost use Rattle.model.specs.Expressions.{headSize, operands as operandsOf, knownCode, headFits, typeAt, expression};
-ghost use Rattle.expressions.specs.Reading.{sizeRead, endFrom, preciseHead, limitsAt, limitsRead};
+ghost use Rattle.expressions.specs.Reading.{endFrom, isRead, skipTo, preciseHead, limitsAt, limitsRead};
 
 // The bytes that an expression takes, or a fault of form.
 pub enum Form {
@@ -103,11 +104,20 @@ pub fn end_of(s: &[u8], from: usize) -> Form
     Form::Bytes(at)
 }
 
-// How many bytes the expression at the start of s takes.
-pub fn size(s: &[u8]) -> Form
-    ensures { λ r. ⌜ r ≡ sizeRead (expression (now (s .entry))) ⌝ }
+// The offset after the expression at an offset, where one is known to stand: by the sizes of its heads alone, nothing is checked again.
+pub fn skip(s: &[u8], from: usize) -> usize
+    requires { ⌜ isRead (expression (drop from (now s))) ≡ true ⌝ }
+    ensures { λ r. ⌜ r ≡ skipTo from (expression (drop from (now (s .entry)))) ⌝ }
 {
-    end_of(s, 0)
+    let mut at: usize = from;
+    let mut left: usize = 1;
+    while 0 < left {
+        let c = octets::byte_at(s, at);
+        let head = head_size(c);
+        left = left - 1 + operands(c);
+        at = at + head;
+    }
+    at
 }
 
 // The precision that a head names, if it names one, is 1 to 30.

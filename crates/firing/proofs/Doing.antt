@@ -12,7 +12,6 @@ use Rattle.model.specs.NetworkFile.{boxAt}
 use Rattle.model.specs.Orders.{onWire}
 use Rattle.model.proofs.Order.{queue-act}
 use Rattle.shapes.specs.declared.Arity.{Arity}
-use Rattle.rules.specs.declared.Parts.{Parts}
 use Rattle.table.specs.declared.Counts.{Counts}
 use Rattle.table.specs.Table.{indexIn}
 use Rattle.places.specs.Standing.{netIn, Standing, stateOf}
@@ -21,7 +20,7 @@ use Rattle.moves.specs.Moves.{Became, withOwn}
 use Rattle.moves.proofs.Laws.{became-then}
 use Rattle.taking.specs.Reading.{readFrom, afterReading}
 use Rattle.putting.specs.Putting.{sentFrom, Places, afterPuts, newFrom, Keeps, afterKeeps}
-use Rattle.firing.specs.Firing.{deedIn, Works}
+use Rattle.firing.specs.Firing.{setsFrom, deedIn, Works}
 
 -- a wire that tokens were taken from holds no more than before
 fewer : (ms : List Move) (s : State) (w : ℕ) → w < length (s .queues) → length (queue (record { queues = takeAll ms (s .queues); owns = s .owns }) w) ≤ length (queue s w)
@@ -32,7 +31,7 @@ fewer ms s w l =
     let z : length (onWire w []) ≡ 0 = unfold onWire in refl in
     omega (arith, ap length e, z, length-append (drop (length (onWire w ms)) (getD (s .queues) w [])) (onWire w []), length-drop (length (onWire w ms)) (getD (s .queues) w []))
 
-module _ (s t p ts b : List ℕ) (c : Counts) (h : Standing s t p ts b c) (k : ℕ) (a : Arity) (q : Parts) (body : List ℕ) (vals : List ℤ) (types : List ℕ) where
+module _ (s t p ts b : List ℕ) (c : Counts) (h : Standing s t p ts b c) (k : ℕ) (a : Arity) (from : ℕ) (body : List ℕ) (vals : List ℤ) (types : List ℕ) where
   abbrev n : Net
   n = netIn s t c ts
 
@@ -43,16 +42,16 @@ module _ (s t p ts b : List ℕ) (c : Counts) (h : Standing s t p ts b c) (k : �
   its = boxAt s (indexIn t c) k
 
   abbrev sent : List Move
-  sent = sentFrom vals types (its .outs) body (a .outs) (q .outs)
+  sent = sentFrom vals types (its .outs) body (a .outs) from
 
   -- what is left in the variables, from their old values
   abbrev left : List ℤ → List ℤ
-  left old = newFrom vals types old body (a .vars) (q .sets)
+  left old = newFrom vals types old body (a .vars) (setsFrom a from body)
 
   abbrev taken : State
   taken = afterReading (its .ins) (readFrom (length (its .ins)) 0 body) st
 
-  module _ (x : Works c n st its k a q body vals types) (b₁ : List ℕ) (e₁ : Became s t p ts b c b₁ taken) where
+  module _ (x : Works c n st its k a from body vals types) (b₁ : List ℕ) (e₁ : Became s t p ts b c b₁ taken) where
     pub places : Places n (stateOf s t c ts b₁) sent
     unfolding deedIn afterReading
     places = rw (e₁ .state) (record {
@@ -76,6 +75,6 @@ module _ (s t p ts b : List ℕ) (c : Counts) (h : Standing s t p ts b c) (k : �
       unfolding deedIn
       keeps = rw same (record { held = x .held; good = x .sound .keeps })
 
-      pub done : (b₃ : List ℕ) → Became s t p ts b₂ c b₃ (afterKeeps k (left (varsOf (own (stateOf s t c ts b₂) k))) (stateOf s t c ts b₂)) → Became s t p ts b c b₃ (act k (deedIn its a q body vals types k st) st)
+      pub done : (b₃ : List ℕ) → Became s t p ts b₂ c b₃ (afterKeeps k (left (varsOf (own (stateOf s t c ts b₂) k))) (stateOf s t c ts b₂)) → Became s t p ts b c b₃ (act k (deedIn its a from body vals types k st) st)
       unfolding act deedIn afterKeeps withOwn afterPuts afterReading
       done b₃ e₃ = became-then s t p ts c b b₂ b₃ (afterPuts sent taken) (afterKeeps k (left (varsOf (own st k)))) put-then (rw same at e₃)

@@ -11,8 +11,9 @@ use Rattle.model.specs.States.{tokensFit}
 use Rattle.model.specs.Cycles.{Deed, fires, look, moves, readsOf, deedOf, mark}
 use Rattle.model.specs.Orders.{onWire}
 use Rattle.model.proofs.Kept.{GoodOwn}
+use Rattle.expressions.specs.Reading.{skipTo}
 use Rattle.shapes.specs.declared.Arity.{Arity}
-use Rattle.rules.specs.declared.Parts.{Parts}
+use Rattle.rules.specs.Bodies.{actionsFrom}
 use Rattle.types.specs.Scopes.{scopeIn}
 use Rattle.evaluation.specs.Envs.{EnvFits}
 use Rattle.table.specs.declared.Counts.{Counts}
@@ -45,21 +46,25 @@ pub record Chosen (c : Counts) (n : Net) (s : State) (k r : ℕ) : Type 0 where
   pub marked : mark n start k ≡ fires r
   pub sound : Sound n s k (deedAt n k r s)
 
--- the deed of box k as a rule's body with these parts says it, from these values and types
-unfoldable pub deedIn : Box → Arity → Parts → List ℕ → List ℤ → List ℕ → ℕ → State → Deed
-deedIn b a p body vals types k s = record {
+-- the offset after the output actions, which begin at an offset of a rule's body
+unfoldable pub setsFrom : Arity → ℕ → List ℕ → ℕ
+setsFrom a from body = skipTo from (actionsFrom false (a .outs) from body)
+
+-- the deed of box k as a rule's body says it, whose output actions begin at an offset, from these values and types
+unfoldable pub deedIn : Box → Arity → ℕ → List ℕ → List ℤ → List ℕ → ℕ → State → Deed
+deedIn b a from body vals types k s = record {
   took = moves (b .ins) (look s (b .ins) (readFrom (length (b .ins)) 0 body));
-  put = sentFrom vals types (b .outs) body (a .outs) (p .outs);
-  keeps = vars (newFrom vals types (varsOf (own s k)) body (a .vars) (p .sets));
+  put = sentFrom vals types (b .outs) body (a .outs) from;
+  keeps = vars (newFrom vals types (varsOf (own s k)) body (a .vars) (setsFrom a from body));
 }
 
 -- that deed can be done
-pub record Works (c : Counts) (n : Net) (s : State) (b : Box) (k : ℕ) (a : Arity) (p : Parts) (body : List ℕ) (vals : List ℤ) (types : List ℕ) : Type 0 where
+pub record Works (c : Counts) (n : Net) (s : State) (b : Box) (k : ℕ) (a : Arity) (from : ℕ) (body : List ℕ) (vals : List ℤ) (types : List ℕ) : Type 0 where
   pub read : CanRead c s (b .ins) k body
   pub outs : a .outs ≡ length (b .outs)
   pub vars : (a .vars ≤ 4) × (a .vars ≡ length (varsOf (own s k)))
-  pub sends : Ready (scopeIn types) false body (a .outs) (p .outs)
-  pub sets : Ready (scopeIn types) true body (a .vars) (p .sets)
+  pub sends : Ready (scopeIn types) false body (a .outs) from
+  pub sets : Ready (scopeIn types) true body (a .vars) (setsFrom a from body)
   pub env : EnvFits vals types
   pub held : (j : ℕ) → j < length (varsOf (own s k)) → getD vals (4 + j) (pos 0) ≡ getD (varsOf (own s k)) j (pos 0)
-  pub sound : Sound n s k (deedIn b a p body vals types k s)
+  pub sound : Sound n s k (deedIn b a from body vals types k s)

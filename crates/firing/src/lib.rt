@@ -1,8 +1,6 @@
 // One firing of a process under the rule that was chosen at the cycle's start, in place on the lent state.
 use model::ProcessId;
 use model::RuleId;
-use rules::Layout;
-use rules::Parts;
 use shapes::Arity;
 use table::Counts;
 ghost use Rattle.model.specs.NetworkFile.{boxAt};
@@ -14,7 +12,7 @@ ghost use Rattle.token_file.specs.Fields.{Fields};
 ghost use Rattle.taking.specs.Taking.{fired};
 ghost use Rattle.firing.specs.Firing.{BoxReady, Chosen, deedIn, Works};
 
-// What a rule's body says, done by box k: tokens taken, then results put, then new values kept.
+// What a rule's body says, whose output actions begin at an offset, done by box k: tokens taken, then results put, then new values kept.
 fn apply(
     net: &[u8],
     table: &[u16],
@@ -24,17 +22,17 @@ fn apply(
     k: ProcessId,
     body: &[u8],
     a: Arity,
-    p: Parts,
+    from: usize,
     vals: &[i64; 8],
     types: &[u8; 16],
     state: &mut [u8],
 )
     requires { ⌜ Standing (now net) (now table) (now starts) (now tokens) (now state) c ⌝ }
-    requires { ⌜ Works c (netIn (now net) (now table) c (now tokens)) (stateOf (now net) (now table) c (now tokens) (now state)) (boxAt (now net) (indexIn (now table) c) (k .0)) (k .0) a p (now body) (now vals) (now types) ⌝ }
-    ensures { λ _. ⌜ Became (now (net .entry)) (now (table .entry)) (now (starts .entry)) (now (tokens .entry)) (now (state .entry)) c (now (state .exit)) (act (k .0) (deedIn (boxAt (now (net .entry)) (indexIn (now (table .entry)) c) (k .0)) a p (now (body .entry)) (now (vals .entry)) (now (types .entry)) (k .0) (stateOf (now (net .entry)) (now (table .entry)) c (now (tokens .entry)) (now (state .entry)))) (stateOf (now (net .entry)) (now (table .entry)) c (now (tokens .entry)) (now (state .entry)))) ⌝ }
+    requires { ⌜ Works c (netIn (now net) (now table) c (now tokens)) (stateOf (now net) (now table) c (now tokens) (now state)) (boxAt (now net) (indexIn (now table) c) (k .0)) (k .0) a from (now body) (now vals) (now types) ⌝ }
+    ensures { λ _. ⌜ Became (now (net .entry)) (now (table .entry)) (now (starts .entry)) (now (tokens .entry)) (now (state .entry)) c (now (state .exit)) (act (k .0) (deedIn (boxAt (now (net .entry)) (indexIn (now (table .entry)) c) (k .0)) a from (now (body .entry)) (now (vals .entry)) (now (types .entry)) (k .0) (stateOf (now (net .entry)) (now (table .entry)) c (now (tokens .entry)) (now (state .entry)))) (stateOf (now (net .entry)) (now (table .entry)) c (now (tokens .entry)) (now (state .entry)))) ⌝ }
 {
     taking::take_read(net, table, c, starts, tokens, k, body, state);
-    putting::put_sent(
+    let next = putting::put_sent(
         net,
         table,
         c,
@@ -42,7 +40,7 @@ fn apply(
         tokens,
         k,
         body,
-        p.outs,
+        from,
         a.outs,
         vals,
         types,
@@ -56,7 +54,7 @@ fn apply(
         tokens,
         k,
         body,
-        p.sets,
+        next,
         a.vars,
         vals,
         types,
@@ -64,7 +62,7 @@ fn apply(
     );
 }
 
-// Box k fires under rule r: its shape, the rule's parts and types, and what it sees, all from before anything is taken.
+// Box k fires under rule r: its shape, where the rule's actions begin, its types, and the values that it sees, all from before anything is taken.
 pub fn fire_box(
     net: &[u8],
     table: &[u16],
@@ -85,12 +83,9 @@ pub fn fire_box(
     let at = lookup::box_at(net, table, c, k);
     let a = shapes::shape_of(net, table, c.wires, at, &mut ins, &mut outs, &mut vars);
     let body = lookup::rule_body(net, table, c, k, r);
-    let Layout::Whole { parts } = rules::parts_of(body, a) else {
-        return;
-    };
+    let from = trying::actions_at(body, a);
     let types = typing::scope(body, &ins, &vars, a);
-    let v = sights::view_of(net, table, c, starts, tokens, k, state);
-    let vals = v.vals;
+    let vals = sights::values(net, table, c, starts, tokens, k, state);
     apply(
         net,
         table,
@@ -100,7 +95,7 @@ pub fn fire_box(
         k,
         body,
         a,
-        parts,
+        from,
         &vals,
         &types,
         state,

@@ -1,20 +1,19 @@
 -- A box of an accepted network: its shape and its rules, as the code has them in tables.
 -- Assumes nothing.
-use mathlib.Core.Path.{_≡_, refl, sym, ap, ap₂, _∙_, subst}
-use mathlib.Core.Bool.{Bool, true, false}
+use mathlib.Core.Path.{_≡_, refl, sym, ap, _∙_}
+use mathlib.Core.Bool.{true, false}
 use mathlib.Core.List.{List, [], _∷_}
-use Prim.Native.Nat.{ℕ, suc, _+_, _-_, _*_, _≤_, _<_}
+use Prim.Native.Nat.{ℕ, suc, _-_, _*_, _≤_, _<_}
 use native.Mathlib.Omega.{arith}
 use lib.Dec.{leb, ltb}
 use lib.ListN.{length, getD, drop}
 use Rattle.model.specs.declared.Ty.{Ty}
-use Rattle.model.specs.Values.{noType}
-use Rattle.model.specs.Expressions.{Read, Scope, expression, typeAt}
-use Rattle.model.specs.Rules.{Rule, Shape, Pattern, matchedTypes, readRule, ruleRead, isWhole, scopeOf}
-use Rattle.model.specs.Network.{Wire, Variable, Box, shapeOf, rule, wireTypes, variableTypes}
-use Rattle.model.specs.NetworkFile.{Index, bodyAt, boxOf, wiresOf, shapeAt, boxAt, ruleIn, ruleForm, ruleLimits, ruleAt, tabulate}
+use Rattle.model.specs.Expressions.{Read, expression, typeAt}
+use Rattle.model.specs.Rules.{Rule, Shape, readRule, ruleRead, isWhole, scopeOf}
+use Rattle.model.specs.Network.{Wire, Variable, shapeOf, rule, wireTypes, variableTypes}
+use Rattle.model.specs.NetworkFile.{Index, bodyAt, boxOf, wiresOf, shapeAt, boxAt, ruleIn, ruleForm, ruleLimits, ruleAt}
 use Rattle.model.proofs.Accepted.{RuleField}
-use Rattle.model.proofs.Decoded.{Each, GoodType, GoodRule, GoodBox, length-tabulate, shape-ins, shape-vars, rule-good}
+use Rattle.model.proofs.Decoded.{GoodRule, length-tabulate, shape-ins, shape-vars, rule-good}
 use Rattle.model.proofs.Tests.{and₅}
 use Rattle.model.proofs.Lookup.{rule-at}
 use Rattle.shapes.specs.Shapes.{wiresIn, BoxFits, typesIn, shapeIn}
@@ -23,7 +22,7 @@ use Rattle.rules.specs.declared.Parts.{Parts}
 use Rattle.rules.specs.declared.Layout.{Layout}
 use Rattle.rules.specs.declared.Layout.the-variants as layout
 use Rattle.expressions.specs.Reading.{limitsRead}
-use Rattle.rules.specs.Bodies.{patternsFrom, actionsFrom, limitsOf, layoutOf}
+use Rattle.rules.specs.Bodies.{patternsFrom, actionsFrom, limitsOf, layoutOf, Parted}
 use Rattle.rules.proofs.Laying.{Laid, laid, isLaid, form-is, ruleIs, rule-read, rule-limits}
 use Rattle.typing.specs.Fits.{scopeRead, listRead, Kept}
 use Rattle.table.specs.declared.Counts.{Counts}
@@ -50,10 +49,6 @@ unfolding listRead ruleRead ruleIs
 ins-of w = rw (w .ins .read, rule-read w)
 
 -- a body that is laid out has parts
-pub record Parted (a : Arity) (b : List ℕ) : Type 0 where
-  pub parts : Parts
-  pub whole : layoutOf a b ≡ layout.Whole parts
-
 parted : (a : Arity) (b : List ℕ) (y : Layout) → layoutOf a b ≡ y → isLaid y ≡ true → Parted a b
 unfolding isLaid
 parted a b layout.Malformed e g = let z : _≡_ {A = ℕ} 0 1 = cc in absurd (omega arith)

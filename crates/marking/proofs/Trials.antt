@@ -1,30 +1,29 @@
 -- A rule against what its box sees is the rule against the state.
 -- Assumes nothing.
-use mathlib.Core.Path.{_≡_, refl, sym, ap, ap₂, _∙_, subst}
-use mathlib.Core.Bool.{Bool, true, false, not, cond, _&&_, _||_}
-use mathlib.Core.Option.{Option, none, some}
+use mathlib.Core.Path.{_≡_, refl, sym, ap, ap₂, _∙_}
+use mathlib.Core.Bool.{Bool, true, false, not, _&&_}
 use mathlib.Core.List.{List, [], _∷_, _++_, map}
 use Prim.Native.Nat.{ℕ, zero, suc, _+_, _-_, _≤_, _<_}
 use native.Mathlib.Nat.{add-zero, zero-add}
 use native.Mathlib.Omega.{arith}
-use lib.Dec.{eqb, leb, ltb}
+use lib.Dec.{eqb, leb}
 use lib.IntN.{ℤ, pos}
 use lib.ListN.{length, getD}
 use borrow.Author.Tests.{lt-ltb, le-ltb, ne-eqb, leb-true}
 use Rattle.model.specs.declared.Ty.{Ty}
 use Rattle.model.specs.declared.Token.{Token}
-use Rattle.model.specs.Values.{noType, isPlain, carried, eqZ}
-use Rattle.model.specs.Expressions.{Scope, Env, valueOf}
+use Rattle.model.specs.Values.{noType, isPlain}
+use Rattle.model.specs.Expressions.{Env, valueOf}
 use Rattle.model.specs.Rules.{Pattern, ignore, any, only, patternOf, Action, Rule, Shape, matchedType, matchedTypes, scopeOf}
 use Rattle.model.specs.Network.{Box, Net, State, queue, shapeOf}
 use Rattle.model.specs.NetworkFile.{hit}
-use Rattle.model.specs.Cycles.{Mark, reads, matches, readyIn, readyIns, readyVars, readyOuts, writes, full, empty, oldest, look, seen, matchedValue, envOf, attempt, guarded, readyRule, tryRule}
+use Rattle.model.specs.Cycles.{Mark, reads, matches, readyIn, readyIns, readyVars, readyOuts, writes, full, empty, oldest, look, seen, matchedValue, envOf, attempt, guarded, readyRule}
 use Rattle.evaluation.specs.Envs.{envIn}
 use Rattle.matching.specs.Outs.{openFrom}
 use Rattle.actions.proofs.Worked.{Alike, Judged, guarded-same}
 use Rattle.trying.specs.Views.{tokenOf, readyFrom, viewEnv, judgeOf, tryOn}
 use Rattle.sights.specs.declared.View.{View}
-use Rattle.sights.specs.Seen.{headOf, Seen}
+use Rattle.sights.specs.Seen.{headOf, Values, Seen}
 
 -- ── patterns ─────────────────────────────────────────────────────────────────────────────────
 
@@ -179,9 +178,36 @@ pub record Suits (n : Net) (b : Box) (vs : List ℤ) (r : Rule) : Type 0 where
   pub tags : (i : ℕ) → i < length (r .ins) → tagged (getD (r .ins) i ignore) ≡ true
   pub judged : Judged (scopeOf (shapeOf (n .wires) b) r) r
 
-module _ (n : Net) (s : State) (b : Box) (vs : List ℤ) (v : View) (h : Seen n s b vs v) (r : Rule) (w : Suits n b vs r) where
+-- the values that a box sees are those that the model works with
+module _ (n : Net) (s : State) (b : Box) (vs vals : List ℤ) (h : Values s (b .ins) vs vals) (r : Rule) (w : Suits n b vs r) where
   abbrev sh : Shape
   sh = shapeOf (n .wires) b
+
+  abbrev en : Env
+  en = envOf n b r (look s (b .ins) (map reads (r .ins))) vs
+
+  pub alike : Alike (viewEnv (sh .ins) (sh .vars) vals r) en
+  unfolding viewEnv envOf scopeOf envIn
+  alike = record {
+    scope = record { ins = λ i. refl; vars = λ i. refl };
+    ins = λ i e.
+        let q = plain-read (sh .ins) (r .ins) i e in
+        let m : i < length (b .ins) = omega (arith, q .0, w .ins) in
+        four-at (λ j. getD vals j (pos 0)) (pos 0) i (omega (arith, m, w .few-ins)) ∙ h .values i m ∙ sym (look-at s (b .ins) (r .ins) i m (q .0) (q .1));
+    vars = λ j e.
+        let m : j < length vs = omega (arith, plain-there (sh .vars) j e, w .typed-vars) in
+        four-at (λ i. getD vals (4 + i) (pos 0)) (pos 0) j (omega (arith, m, w .few-vars)) ∙ h .vars j m;
+  }
+
+module _ (n : Net) (s : State) (b : Box) (vs : List ℤ) (v : View) (h : Seen n s b vs v) (r : Rule) (w : Suits n b vs r) where
+  abbrev shape : Shape
+  shape = shapeOf (n .wires) b
+
+  abbrev env : Env
+  env = envOf n b r (look s (b .ins) (map reads (r .ins))) vs
+
+  same-values : Values s (b .ins) vs (v .vals)
+  same-values = record { values = h .values; vars = h .vars; small = h .small }
 
   abbrev f : ℕ → Token
   f = tokenOf (length (r .ins)) (v .heads) (v .vals)
@@ -205,27 +231,11 @@ module _ (n : Net) (s : State) (b : Box) (vs : List ℤ) (v : View) (h : Seen n 
   open-same : openFrom (v .full) 0 (r .outs) ≡ readyOuts n s (b .outs) (r .outs)
   open-same = sym (outs-ready n s (v .full) 0 (b .outs) (r .outs) (w .outs) (λ i l. ap (λ (k : ℕ). getD (v .full) k 0) (zero-add i) ∙ h .fulls i l))
 
-  abbrev en : Env
-  en = envOf n b r (look s (b .ins) (map reads (r .ins))) vs
-
-  pub alike : Alike (viewEnv (sh .ins) (sh .vars) (v .vals) r) en
-  unfolding viewEnv envOf scopeOf envIn
-  alike = record {
-    scope = record { ins = λ i. refl; vars = λ i. refl };
-    ins = λ i e.
-        let q = plain-read (sh .ins) (r .ins) i e in
-        let m : i < length (b .ins) = omega (arith, q .0, w .ins) in
-        four-at (λ j. getD (v .vals) j (pos 0)) (pos 0) i (omega (arith, m, w .few-ins)) ∙ h .values i m ∙ sym (look-at s (b .ins) (r .ins) i m (q .0) (q .1));
-    vars = λ j e.
-        let m : j < length vs = omega (arith, plain-there (sh .vars) j e, w .typed-vars) in
-        four-at (λ i. getD (v .vals) (4 + i) (pos 0)) (pos 0) j (omega (arith, m, w .few-vars)) ∙ h .vars j m;
-  }
-
-  pub trial-same : (k : ℕ) → tryOn (sh .ins) (sh .vars) (v .heads) (v .full) (v .vals) r k ≡ attempt (readyRule n s b r vs) (guarded en r k (valueOf en (r .guard)))
+  pub trial-same : (k : ℕ) → tryOn (shape .ins) (shape .vars) (v .heads) (v .full) (v .vals) r k ≡ attempt (readyRule n s b r vs) (guarded env r k (valueOf env (r .guard)))
   unfolding tryOn judgeOf readyRule attempt
   trial-same k =
-      rw (ready-same, open-same, guarded-same (viewEnv (sh .ins) (sh .vars) (v .vals) r) en alike r (unfold viewEnv scopeOf in w .judged) k)
-      (twice (readyIns s (b .ins) (r .ins) && readyVars vs (r .vars)) (readyOuts n s (b .outs) (r .outs)) (guarded en r k (valueOf en (r .guard))))
+      rw (ready-same, open-same, guarded-same (viewEnv (shape .ins) (shape .vars) (v .vals) r) env (alike n s b vs (v .vals) same-values r w) r (unfold viewEnv scopeOf in w .judged) k)
+      (twice (readyIns s (b .ins) (r .ins) && readyVars vs (r .vars)) (readyOuts n s (b .outs) (r .outs)) (guarded env r k (valueOf env (r .guard))))
     where
       twice : (x y : Bool) (m : Mark) → attempt x (attempt y m) ≡ attempt (x && y) m
       twice true y m = refl

@@ -2,7 +2,7 @@
 -- Assumes nothing.
 use mathlib.Core.Path.{_≡_, refl, sym, ap, _∙_}
 use mathlib.Core.Bool.{Bool, true, false, not, cond, _&&_, _||_}
-use mathlib.Core.List.{List, [], _∷_}
+use mathlib.Core.List.{List, _∷_}
 use Prim.Native.Nat.{ℕ, zero, suc, _+_, _-_, _<_}
 use native.Mathlib.Omega.{arith}
 use lib.Dec.{leb, eqb}
@@ -11,15 +11,16 @@ use lib.ListN.{getD, drop}
 use borrow.Author.Tests.{ne-eqb, eq-eqb}
 use Rattle.model.specs.Values.{eqZ}
 use Rattle.model.specs.Expressions.{Read, bad, got, after, readMany, expression}
-use Rattle.model.specs.Rules.{Pattern, any, only, patternOf, Action, send, bareAction, readAction, holdsExpression, sentTag}
+use Rattle.model.specs.Rules.{only, patternOf, Action, send, bareAction, readAction, holdsExpression, sentTag}
 use Rattle.model.specs.Cycles.{matches, writes}
-use Rattle.expressions.specs.declared.Form.the-variants.{Bytes, Malformed}
+use Rattle.expressions.specs.Reading.{endFrom, isRead, skipTo}
+use Rattle.expressions.specs.declared.Form.the-variants.{Bytes}
 use Rattle.expressions.proofs.Heads.{head-at}
-use Rattle.rules.specs.Bodies.{actionCodes, actionsFrom, endAt}
+use Rattle.rules.specs.Bodies.{actionCodes, anyCode, actionsFrom}
 use Rattle.typing.specs.Fits.{tagOf, expRead, actionAt}
-use Rattle.rules.proofs.Laying.{Found, found}
-use Rattle.rules.proofs.Ends.{end-bad}
-use Rattle.typing.proofs.Peeling.{many-is}
+use Rattle.rules.proofs.Laying.{found}
+use Rattle.rules.proofs.Ends.{action-there, action-skip}
+use Rattle.typing.proofs.Peeling.{many-is, peel, first-read}
 use Rattle.typing.proofs.Patterns.{constant-is, any-is}
 use Rattle.typing.proofs.Actions.{action-read}
 use Rattle.matching.specs.declared.Outs.{Outs}
@@ -72,11 +73,6 @@ writes-is b at =
     writes-by (holdsExpression c) c (send (sentTag c) (expRead (expression (drop 1 (drop at b))))) refl refl
     ∙ ap (λ (c : ℕ). not (eqb c 0)) (head-at at b)
 
-gone : (fs : List ℕ) (k at : ℕ) (r : Read (List Action)) → endAt at r ≡ Malformed → Shut ≡ outsOf fs k at r
-unfolding outsOf endAt
-gone fs k at bad e = refl
-gone fs k at (got xs n) e = let z : _≡_ {A = ℕ} 0 1 = cc in absurd (omega arith)
-
 -- an action before others: they count only where it is open
 one-more : (fs : List ℕ) (k at size end : ℕ) (x : Action) (q : Read (List Action)) → end ≡ at + size
     → outsOf fs k at (after q (λ rest n. got (x ∷ rest) (size + n))) ≡ cond (not (writes x && eqb (getD fs k 0) 1)) (outsOf fs (k + 1) end q) Shut
@@ -98,28 +94,43 @@ module _ (fs b : List ℕ) where
   abbrev pub left : ℕ → ℕ → ℕ → Outs
   left k at m = outsOf fs k at (actionsFrom false m at b)
 
-  pub left-bad : (k at m : ℕ) → 0 < m → endAt at (readAction (actionCodes false) (drop at b)) ≡ Malformed → Shut ≡ left k at m
-  unfolding actionsFrom
-  left-bad k at m h e = gone fs k at _ (end-bad (readAction (actionCodes false)) b m at h e)
-
   pub left-none : (k at : ℕ) → left k at 0 ≡ Open at
   unfolding actionsFrom readMany outsOf openFrom
   left-none k at = ap Open (omega arith)
 
-  module _ (k at end m c f : ℕ) (h : 0 < m) (e : endAt at (readAction (actionCodes false) (drop at b)) ≡ Bytes end) (ec : c ≡ getD b at 0) (ef : f ≡ getD fs k 0) where
-    left-is : left k at m ≡ cond (not (not (eqb c 0) && eqb f 1)) (left (k + 1) end (m - 1)) Shut
+  -- m actions are there from an offset on
+  module _ (m at : ℕ) (h : 0 < m) (r : isRead (actionsFrom false m at b) ≡ true) where
+    first : isRead (readAction (actionCodes false) (drop at b)) ≡ true
     unfolding actionsFrom
-    left-is =
-        let x = found (readAction (actionCodes false) (drop at b)) at end e in
-        let s : m ≡ suc (m - 1) = omega arith in
-        let w : writes (x .thing) ≡ not (eqb c 0) = ap writes (action-read (actionCodes false) (drop at b) (x .read) .0) ∙ writes-is b at ∙ rw ec in
-        ap (λ (j : ℕ). outsOf fs k at (readMany (readAction (actionCodes false)) j (drop at b))) s
-        ∙ ap (outsOf fs k at) (many-is (readAction (actionCodes false)) b (m - 1) at end x)
-        ∙ one-more fs k at (x .size) end (x .thing) _ (x .ends)
-        ∙ rw (w, ef)
+    first = first-read (readAction (actionCodes false)) b m at h r
 
-    pub left-shut : (not (eqb c 0) && eqb f 1) ≡ true → Shut ≡ left k at m
-    left-shut t = sym (left-is ∙ rw t)
+    pub first-there : isRead (readAction anyCode (drop at b)) ≡ true
+    first-there = action-there (actionCodes false) b at first
 
-    pub left-more : (not (eqb c 0) && eqb f 1) ≡ false → left k at m ≡ left (k + 1) end (m - 1)
-    left-more t = left-is ∙ rw t
+    -- the first ends there
+    module _ (end : ℕ) (g : end ≡ skipTo at (readAction anyCode (drop at b))) where
+      e : endFrom at (readAction (actionCodes false) (drop at b)) ≡ Bytes end
+      e = action-skip (actionCodes false) b at first end g
+
+      pub rest-there : isRead (actionsFrom false (m - 1) end b) ≡ true
+      unfolding actionsFrom
+      rest-there = peel (readAction (actionCodes false)) b m at end h r e .rest
+
+      -- it is of code c, and f is its output's flag
+      module _ (k c f : ℕ) (ec : c ≡ getD b at 0) (ef : f ≡ getD fs k 0) where
+        left-is : left k at m ≡ cond (not (not (eqb c 0) && eqb f 1)) (left (k + 1) end (m - 1)) Shut
+        unfolding actionsFrom
+        left-is =
+            let x = found (readAction (actionCodes false) (drop at b)) at end e in
+            let s : m ≡ suc (m - 1) = omega arith in
+            let w : writes (x .thing) ≡ not (eqb c 0) = ap writes (action-read (actionCodes false) (drop at b) (x .read) .0) ∙ writes-is b at ∙ rw ec in
+            ap (λ (j : ℕ). outsOf fs k at (readMany (readAction (actionCodes false)) j (drop at b))) s
+            ∙ ap (outsOf fs k at) (many-is (readAction (actionCodes false)) b (m - 1) at end x)
+            ∙ one-more fs k at (x .size) end (x .thing) _ (x .ends)
+            ∙ rw (w, ef)
+
+        pub left-shut : (not (eqb c 0) && eqb f 1) ≡ true → Shut ≡ left k at m
+        left-shut t = sym (left-is ∙ rw t)
+
+        pub left-more : (not (eqb c 0) && eqb f 1) ≡ false → left k at m ≡ left (k + 1) end (m - 1)
+        left-more t = left-is ∙ rw t

@@ -1,12 +1,12 @@
 // A rule's patterns and output actions against what its box sees.
-use expressions::Form;
 ghost use mathlib.Core.Path.{_≡_};
-ghost use mathlib.Core.Bool.{false};
+ghost use mathlib.Core.Bool.{true, false};
 ghost use Prim.Native.Nat.{_+_, _<_};
 ghost use lib.ListN.{length, getD};
 ghost use Rattle.model.specs.Bytes.{valueAt};
 ghost use Rattle.model.specs.Rules.{patternOf};
 ghost use Rattle.model.specs.Cycles.{matches};
+ghost use Rattle.expressions.specs.Reading.{isRead};
 ghost use Rattle.rules.specs.Bodies.{actionsFrom};
 ghost use Rattle.matching.specs.Outs.{outsOf};
 
@@ -36,20 +36,19 @@ pub enum Outs {
 
 // The n output actions from an offset on, against the outputs' flags: 1 where the wire is full.
 pub fn outs_open(b: &[u8], from: usize, n: usize, full: &[u8]) -> Outs
+    requires { ⌜ isRead (actionsFrom false n from (now b)) ≡ true ⌝ }
     ensures { λ r. ⌜ r ≡ outsOf (now (full .entry)) 0 from (actionsFrom false n from (now (b .entry))) ⌝ }
 {
     let mut at = from;
     let mut k = 0;
     while k < n {
-        let Form::Bytes(end) = rules::action_end(b, at, false) else {
-            return Outs::Shut;
-        };
+        let next = rules::skip_action(b, at);
         let c = octets::byte_at(b, at);
         let f = octets::byte_at(full, k);
         if (c != 0) & (f == 1) {
             return Outs::Shut;
         }
-        at = end;
+        at = next;
         k += 1;
     }
     Outs::Open { next: at }

@@ -13,15 +13,18 @@ use lib.Seq.{drop-cons}
 use borrow.Author.Tests.{eq-eqb}
 use Rattle.model.specs.declared.Ty.{Ty}
 use Rattle.model.specs.declared.Token.{Token}
-use Rattle.model.specs.Expressions.{readMany, Scope}
-use Rattle.model.specs.Rules.{Action}
+use Rattle.model.specs.Expressions.{Read, bad, got, readMany, Scope}
+use Rattle.model.specs.Rules.{Action, readAction}
 use Rattle.model.specs.Network.{Net, State, wire, queue}
 use Rattle.model.specs.States.{tokenFits, tokensFit}
 use Rattle.model.specs.Cycles.{Move, moves, result, putAll}
 use Rattle.model.specs.Orders.{joined, onWire}
 use Rattle.model.proofs.Tests.{and₂, both}
 use Rattle.model.proofs.Order.{putAll-at}
-use Rattle.rules.specs.Bodies.{actionsFrom}
+use Rattle.expressions.specs.declared.Form.the-variants.{Bytes}
+use Rattle.expressions.specs.Reading.{endFrom, skipTo}
+use Rattle.rules.specs.Bodies.{actionCodes, actionsFrom}
+use Rattle.rules.proofs.Ends.{end-step, end-none}
 use Rattle.types.specs.Scopes.{scopeIn}
 use Rattle.typing.proofs.Patterns.{minus-zero}
 use Rattle.typing.specs.Fits.{listRead, actionAt}
@@ -194,14 +197,22 @@ sent-end vals types ws b k at h = let q : k ≡ 0 = omega arith in rw q (no-move
 -- ── the turns of the loop ────────────────────────────────────────────────────────────────────
 
 -- before turn j, at an offset: the actions that are left can be worked out, and their results lead to the state after all n
+-- what ends at an offset is skipped to there
+skipped : {A : Type 0} (at : ℕ) {end : ℕ} (r : Read A) → endFrom at r ≡ Bytes end → end ≡ skipTo at r
+unfolding endFrom skipTo
+skipped at bad e = let z : _≡_ {A = ℕ} 0 1 = cc in absurd (omega arith)
+skipped at (got x n) e = cc
+
 pub record SentLeft (s t p ts b₀ : List ℕ) (c : Counts) (vals : List ℤ) (types ws body : List ℕ) (n from : ℕ) (b : List ℕ) (at j : ℕ) : Type 0 where
   pub ready : Ready (scopeIn types) false body (n - j) at
+  pub ends : endFrom at (actionsFrom false (n - j) at body) ≡ endFrom from (actionsFrom false n from body)
   pub left : Putting s t p ts b₀ c (afterPuts (sentFrom vals types ws body n from) (stateOf s t c ts b₀)) b (sentFrom vals types (drop j ws) body (n - j) at)
 
 module _ (s t p ts b₀ : List ℕ) (c : Counts) (vals : List ℤ) (types ws body : List ℕ) (n from : ℕ) where
   pub sent-start : Standing s t p ts b₀ c → Ready (scopeIn types) false body n from → Places (netIn s t c ts) (stateOf s t c ts b₀) (sentFrom vals types ws body n from) → SentLeft s t p ts b₀ c vals types ws body n from b₀ from 0
   sent-start h r g = record {
     ready = subst (λ (m : ℕ). Ready (scopeIn types) false body m from) (sym (minus-zero n)) r;
+    ends = ap (λ (m : ℕ). endFrom from (actionsFrom false m from body)) (minus-zero n);
     left = subst (λ (m : ℕ). Putting s t p ts b₀ c (afterPuts (sentFrom vals types ws body n from) (stateOf s t c ts b₀)) b₀ (sentFrom vals types ws body m from)) (sym (minus-zero n)) (putting-first s t p ts b₀ c (sentFrom vals types ws body n from) h g);
   }
 
@@ -214,9 +225,18 @@ module _ (s t p ts b₀ : List ℕ) (c : Counts) (vals : List ℤ) (types ws bod
       sent-places = places-first (netIn s t c ts) (stateOf s t c ts b) _ _ (subst (λ (k : List Move). Places (netIn s t c ts) (stateOf s t c ts b) k) parts (x .left .places))
 
       pub sent-next : (b′ : List ℕ) → Became s t p ts b c b′ (afterPuts (sentTo vals types (getD ws j 0) body at) (stateOf s t c ts b)) → SentLeft s t p ts b₀ c vals types ws body n from b′ end (j + 1)
+      unfolding actionsFrom
       sent-next b′ y =
           let q : n - j - 1 ≡ n - (j + 1) = omega arith in
-          record { ready = rw q at (f .rest); left = rw q at (putting-next s t p ts b₀ c (afterPuts (sentFrom vals types ws body n from) (stateOf s t c ts b₀)) b b′ _ _ _ parts (x .left) y) }
+          record {
+            ready = rw q at (f .rest);
+            ends = rw (← q) (sym (end-step (readAction (actionCodes false)) body (n - j) at end (omega arith) (f .ends)) ∙ x .ends);
+            left = rw q at (putting-next s t p ts b₀ c (afterPuts (sentFrom vals types ws body n from) (stateOf s t c ts b₀)) b b′ _ _ _ parts (x .left) y);
+          }
 
-    pub sent-last : n ≤ j → SentLeft s t p ts b₀ c vals types ws body n from b at j → Became s t p ts b₀ c b (afterPuts (sentFrom vals types ws body n from) (stateOf s t c ts b₀))
-    sent-last l x = putting-last s t p ts b₀ c _ b _ (sent-end vals types (drop j ws) body (n - j) at (omega arith)) (x .left)
+    pub sent-last : n ≤ j → SentLeft s t p ts b₀ c vals types ws body n from b at j → (at ≡ skipTo from (actionsFrom false n from body)) × Became s t p ts b₀ c b (afterPuts (sentFrom vals types ws body n from) (stateOf s t c ts b₀))
+    unfolding actionsFrom
+    sent-last l x = (
+      skipped from _ (sym (x .ends) ∙ end-none (readAction (actionCodes false)) body (n - j) at (omega arith)),
+      putting-last s t p ts b₀ c _ b _ (sent-end vals types (drop j ws) body (n - j) at (omega arith)) (x .left),
+    )

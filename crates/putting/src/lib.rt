@@ -1,6 +1,5 @@
 // What a rule's actions leave: the results put on the box's output wires, and the new values of its variables, in place on the lent state.
 use actions::Sending;
-use expressions::Form;
 use model::ProcessId;
 use table::Counts;
 ghost use mathlib.Core.Path.{_≡_};
@@ -12,6 +11,8 @@ ghost use Rattle.model.specs.Network.{proc, own, varsOf};
 ghost use Rattle.model.specs.NetworkFile.{boxAt};
 ghost use Rattle.model.specs.Cycles.{newVar};
 ghost use Rattle.types.specs.Scopes.{scopeIn};
+ghost use Rattle.expressions.specs.Reading.{skipTo};
+ghost use Rattle.rules.specs.Bodies.{actionsFrom};
 ghost use Rattle.typing.specs.Fits.{actionAt};
 ghost use Rattle.evaluation.specs.Envs.{envIn, EnvFits};
 ghost use Rattle.table.specs.Table.{indexIn};
@@ -78,7 +79,7 @@ fn put_one(
     moves::put(net, table, c, starts, tokens, w, token, state);
 }
 
-// The results of the output actions from an offset of the rule's body on, each put on the wire of its output of box k.
+// The results of the output actions from an offset of the rule's body on, each put on the wire of its output of box k. The answer is the offset after them.
 pub fn put_sent(
     net: &[u8],
     table: &[u16],
@@ -92,21 +93,19 @@ pub fn put_sent(
     vals: &[i64; 8],
     types: &[u8; 16],
     state: &mut [u8],
-)
+) -> usize
     requires { ⌜ Standing (now net) (now table) (now starts) (now tokens) (now state) c ⌝ }
     requires { ⌜ k .0 < c .boxes ⌝ }
     requires { ⌜ outs ≡ length ((boxAt (now net) (indexIn (now table) c) (k .0)) .outs) ⌝ }
     requires { ⌜ Ready (scopeIn (now types)) false (now body) outs from ⌝ }
     requires { ⌜ EnvFits (now vals) (now types) ⌝ }
     requires { ⌜ Places (netIn (now net) (now table) c (now tokens)) (stateOf (now net) (now table) c (now tokens) (now state)) (sentFrom (now vals) (now types) ((boxAt (now net) (indexIn (now table) c) (k .0)) .outs) (now body) outs from) ⌝ }
-    ensures { λ _. ⌜ Became (now (net .entry)) (now (table .entry)) (now (starts .entry)) (now (tokens .entry)) (now (state .entry)) c (now (state .exit)) (afterPuts (sentFrom (now (vals .entry)) (now (types .entry)) ((boxAt (now (net .entry)) (indexIn (now (table .entry)) c) (k .0)) .outs) (now (body .entry)) outs from) (stateOf (now (net .entry)) (now (table .entry)) c (now (tokens .entry)) (now (state .entry)))) ⌝ }
+    ensures { λ r. ⌜ (r ≡ skipTo from (actionsFrom false outs from (now (body .entry)))) × Became (now (net .entry)) (now (table .entry)) (now (starts .entry)) (now (tokens .entry)) (now (state .entry)) c (now (state .exit)) (afterPuts (sentFrom (now (vals .entry)) (now (types .entry)) ((boxAt (now (net .entry)) (indexIn (now (table .entry)) c) (k .0)) .outs) (now (body .entry)) outs from) (stateOf (now (net .entry)) (now (table .entry)) c (now (tokens .entry)) (now (state .entry)))) ⌝ }
 {
     let mut at = from;
     let mut out = 0;
     while out < outs {
-        let Form::Bytes(end) = rules::action_end(body, at, false) else {
-            return;
-        };
+        let next = rules::skip_action(body, at);
         put_one(
             net,
             table,
@@ -121,9 +120,10 @@ pub fn put_sent(
             types,
             state,
         );
-        at = end;
+        at = next;
         out += 1;
     }
+    at
 }
 
 // The new values of the variables of box k, by the actions from an offset of the rule's body on.
@@ -152,9 +152,7 @@ pub fn keep_new(
     let mut at = from;
     let mut var = 0;
     while var < vars {
-        let Form::Bytes(end) = rules::action_end(body, at, true) else {
-            return;
-        };
+        let next = rules::skip_action(body, at);
         keep_one(
             net,
             table,
@@ -169,7 +167,7 @@ pub fn keep_new(
             types,
             state,
         );
-        at = end;
+        at = next;
         var += 1;
     }
 }

@@ -5,18 +5,18 @@ use mathlib.Core.Path.{_≡_, refl, sym, ap, ap₂, _∙_}
 use mathlib.Core.List.{List, [], _∷_, _++_, append-assoc, append-nil}
 use native.Mathlib.Omega.{arith}
 use lib.IntN.{ℤ, pos}
-use lib.ListN.{length, getD, take, drop, set, replicate, length-append, length-set, replicate-append-replicate}
+use lib.ListN.{length, getD, take, drop, set, replicate, length-append, replicate-append-replicate}
 use lib.Seq.{take-at, drop-at}
 use Rattle.model.specs.declared.Token.{Token}
 use Rattle.model.specs.Bytes.{twoAt, twoBytes, valueAt, valueBytes}
-use Rattle.model.specs.Network.{Wire, Box, Proc, box, input, output, Own, vars, taken, got, varsOf, takenOf, gotOf, noToken}
+use Rattle.model.specs.Network.{Wire, Box, Proc, box, input, output, Own, vars, taken, got, varsOf, takenOf, gotOf}
 use Rattle.model.specs.States.{tokenBytes, tokensBytes, roomBytes, wireBytes, valuesBytes, ownBytes, wireSize, ownSize}
-use Rattle.model.proofs.Decoded.{Each, each-append}
+use Rattle.model.proofs.Decoded.{Each}
 pub use Rattle.model.proofs.Kept.{length-tokens, length-room, length-values}
 use Rattle.octets.proofs.Laws.{two-back, value-back, value-drop, length-two, length-value, length-token}
 use Rattle.queues.specs.Segments.{putMid}
 use Rattle.queues.specs.Queues.{WireRoom, WireHeld, GotRoom, pushBytes, popBytes, gotBytes, moved}
-use Rattle.queues.specs.Sound.{Small, Sane, Held, Kept, ofBox, ofInput, ofOutput}
+use Rattle.queues.specs.Sound.{Small, Kept, ofBox, ofInput, ofOutput}
 use Rattle.queues.proofs.Segments.{put-after}
 
 -- ── lengths ──────────────────────────────────────────────────────────────────────────────────
@@ -164,28 +164,9 @@ output-empty w room = let e : 2 + 5 * room ≡ suc (suc ((room - 0) * 5)) = omeg
 
 -- ── what is kept ─────────────────────────────────────────────────────────────────────────────
 
-pub each-snoc : {A : Type 0} (P : A → Type 0) (d : A) (xs : List A) (x : A) → Each P d xs → P x → Each P d (xs ++ (x ∷ []))
-each-snoc P d xs x h p = each-append P d xs (x ∷ []) h last
-  where
-    last : (k : ℕ) → k < 1 → P (getD (x ∷ []) k d)
-    last zero l = p
-    last (suc k) l = absurd (omega (arith, l))
-
 pub each-set : {A : Type 0} (P : A → Type 0) (d : A) (xs : List A) (i : ℕ) (x : A) → Each P d xs → P x → Each P d (set xs i x)
 each-set P d [] i x h p k l = absurd (omega arith)
 each-set P d (y ∷ ys) zero x h p zero l = p
 each-set P d (y ∷ ys) zero x h p (suc k) l = h (suc k) l
 each-set P d (y ∷ ys) (suc i) x h p zero l = h 0 (omega arith)
 each-set P d (y ∷ ys) (suc i) x h p (suc k) l = each-set P d ys i x (λ j m. h (suc j) (omega (arith, m))) p k (omega arith)
-
-pub held-push : {w : Wire} {q : List Token} {t : Token} → Held w q → length q < w .capacity → Sane t → Held w (q ++ (t ∷ []))
-held-push {q = q} {t = t} h l s = record { fits = omega (arith, length-snoc q t); sane = each-snoc Sane noToken q t (h .sane) s }
-
-pub held-pop : {w : Wire} {q : List Token} {t : Token} → Held w (t ∷ q) → Held w q
-held-pop h = record { fits = omega arith; sane = λ k l. h .sane (suc k) (omega (arith, l)) }
-
-pub kept-push : {w room : ℕ} (ts : List Token) {t : Token} → Each Sane noToken ts → length ts < room → Sane t → Kept (output w room) (got (ts ++ (t ∷ [])))
-kept-push {room = room} ts {t = t} h l s = let k : length (ts ++ (t ∷ [])) ≤ room = omega (arith, length-snoc ts t) in ofOutput k (each-snoc Sane noToken ts t h s)
-
-pub kept-var : {b : Box} (zs : List ℤ) {z : ℤ} → length zs ≡ length (b .vars) → Each Small (pos 0) zs → (j : ℕ) → Small z → Kept (box b) (vars (set zs j z))
-kept-var zs {z = z} e h j s = ofBox (length-set zs j z ∙ e) (each-set Small (pos 0) zs j z h s)

@@ -128,10 +128,6 @@ module _ (n : Net) (s : State) (h : Sound n s) where
       put-at (a ++ b) (zipWith wireBytes (n .wires) (set (s .queues) i q) ++ b) rest (wireBytes (wire n i) (queue s i)) (wireBytes (wire n i) q) i (wireStart n i) (wireSize (wire n i)) (in-all i l) (wire-place i l) (at-wire i l) (wire-long i l)
       (set-append-left a b i (wireBytes (wire n i) q) (omega (arith, zip-length wireBytes (h .wires))) ∙ ap (λ (x : List (List ℕ)). x ++ b) (zip-set wireBytes (h .wires) i noWire q))
 
-  pub sound-wire : (i : ℕ) (q : List Token) → Held (wire n i) q → Sound n (record { queues = set (s .queues) i q; owns = s .owns })
-  unfolding wire
-  sound-wire i q g = record { wires = both-set (h .wires) i noWire q g; procs = h .procs }
-
   -- ── the bytes of a process ──
 
   number : ℕ → ℕ
@@ -168,19 +164,11 @@ module _ (n : Net) (s : State) (h : Sound n s) where
       put-at (a ++ b) (a ++ zipWith ownBytes (n .procs) (set (s .owns) k o)) rest (ownBytes (proc n k) (own s k)) (ownBytes (proc n k) o) (number k) (ownStart n k) (ownSize (proc n k)) (in-both k l) (own-place k) (at-own k l) (own-long k l)
       (set-second a b k (ownBytes (proc n k) o) ∙ ap (λ (x : List (List ℕ)). a ++ x) (zip-set ownBytes (h .procs) k nobody o))
 
-  pub sound-own : (k : ℕ) (o : Own) → Kept (proc n k) o → Sound n (record { queues = s .queues; owns = set (s .owns) k o })
-  unfolding proc
-  sound-own k o g = record { wires = h .wires; procs = both-set (h .procs) k nobody o g }
-
   -- ── a lent part: what it is, and the state when another comes back in its place ──
 
   module _ (whole rest : List ℕ) (e : whole ≡ bytesOf n s ++ rest) where
     pub wire-part : (i a b : ℕ) → i < length (n .wires) → a ≡ wireStart n i → b ≡ a + wireSize (wire n i) → mid a (b - a) whole ≡ wireBytes (wire n i) (queue s i)
     wire-part i a b l p q = rw (q, add-sub-cancel-left a (wireSize (wire n i)), p, e) (wire-read rest i l)
-
-    pub wire-end : (i a b : ℕ) → i < length (n .wires) → a ≡ wireStart n i → b ≡ a + wireSize (wire n i) → b ≤ length whole
-    unfolding stateSize
-    wire-end i a b l p q = rw e (omega (arith, length-append (bytesOf n s) rest, length-bytes, wire-in n i l))
 
     pub wire-edit : (f : List ℕ → List ℕ) (last : List ℕ) (t : List Token) (i a b : ℕ) → i < length (n .wires) → a ≡ wireStart n i → b ≡ a + wireSize (wire n i) →
         last ≡ f (mid a (b - a) whole) → f (wireBytes (wire n i) (queue s i)) ≡ wireBytes (wire n i) t → putMid a (b - a) whole last ≡ bytesOf n (record { queues = set (s .queues) i t; owns = s .owns }) ++ rest
@@ -190,9 +178,6 @@ module _ (n : Net) (s : State) (h : Sound n s) where
 
     pub own-part : (k a b : ℕ) → k < length (n .procs) → a ≡ ownStart n k → b ≡ a + ownSize (proc n k) → mid a (b - a) whole ≡ ownBytes (proc n k) (own s k)
     own-part k a b l p q = rw (q, add-sub-cancel-left a (ownSize (proc n k)), p, e) (own-read rest k l)
-
-    pub own-end : (k a b : ℕ) → k < length (n .procs) → a ≡ ownStart n k → b ≡ a + ownSize (proc n k) → b ≤ length whole
-    own-end k a b l p q = rw e (omega (arith, length-append (bytesOf n s) rest, length-bytes, own-in n k l))
 
     pub own-edit : (f : List ℕ → List ℕ) (last : List ℕ) (o : Own) (k a b : ℕ) → k < length (n .procs) → a ≡ ownStart n k → b ≡ a + ownSize (proc n k) →
         last ≡ f (mid a (b - a) whole) → f (ownBytes (proc n k) (own s k)) ≡ ownBytes (proc n k) o → putMid a (b - a) whole last ≡ bytesOf n (record { queues = s .queues; owns = set (s .owns) k o }) ++ rest

@@ -11,9 +11,9 @@ use lib.Seq.{drop-drop}
 use Rattle.model.specs.Expressions.{Exp, Read, bad, got, after, readMany, provided, expression, expressionLimits}
 use Rattle.model.specs.Rules.{Action, nothing, bare, send, bareAction, sentTag, readAction, holdsExpression, actionLimits}
 use Rattle.expressions.specs.declared.Form.the-variants.{Bytes, Malformed}
-use Rattle.expressions.specs.Reading.{limitsRead}
+use Rattle.expressions.specs.Reading.{limitsRead, endFrom}
 use Rattle.expressions.proofs.Heads.{head-at}
-use Rattle.rules.specs.Bodies.{endAt, sentLimits, limitsOf}
+use Rattle.rules.specs.Bodies.{sentLimits, limitsOf}
 use Rattle.rules.proofs.Ends.{nothing-there}
 
 -- the limits of one action
@@ -39,14 +39,14 @@ module _ (f : List ℕ → Read Action) (b : List ℕ) where
   rest-got false bad x n e = refl
   rest-got t (got xs m) x n e = keeps-more x xs ∙ rw e
 
-  step-go : (k at end : ℕ) (r : Read Action) → endAt at r ≡ Bytes end → keepsRead r ≡ true → limitsOf (after r (λ a n. after (readMany f k (drop n (drop at b))) (λ rest m. got (a ∷ rest) (n + m)))) ≡ limitsOf (readMany f k (drop end b))
-  unfolding endAt after keepsRead
+  step-go : (k at end : ℕ) (r : Read Action) → endFrom at r ≡ Bytes end → keepsRead r ≡ true → limitsOf (after r (λ a n. after (readMany f k (drop n (drop at b))) (λ rest m. got (a ∷ rest) (n + m)))) ≡ limitsOf (readMany f k (drop end b))
+  unfolding endFrom after keepsRead
   step-go k at end bad e g = let z : _≡_ {A = ℕ} 0 1 = cc in absurd (omega arith)
   step-go k at end (got x n) e g =
       let q : at + n ≡ end = cc in
       rw (drop-drop n at b) (rest-got true (readMany f k (drop (at + n) b)) x n g ∙ ap (λ (j : ℕ). limitsOf (readMany f k (drop j b))) q)
 
-  pub limits-step : (k at end : ℕ) → 0 < k → endAt at (f (drop at b)) ≡ Bytes end → keepsRead (f (drop at b)) ≡ true → limitsOf (readMany f k (drop at b)) ≡ limitsOf (readMany f (k - 1) (drop end b))
+  pub limits-step : (k at end : ℕ) → 0 < k → endFrom at (f (drop at b)) ≡ Bytes end → keepsRead (f (drop at b)) ≡ true → limitsOf (readMany f k (drop at b)) ≡ limitsOf (readMany f (k - 1) (drop end b))
   unfolding readMany
   limits-step zero at end l e g = absurd (omega arith)
   limits-step (suc k) at end l e g =
@@ -68,8 +68,8 @@ module _ (f : List ℕ → Read Action) (b : List ℕ) where
   limits-none zero at l = refl
   limits-none (suc k) at l = absurd (omega arith)
 
-pub keeps-bad : (r : Read Action) (at : ℕ) → endAt at r ≡ Malformed → keepsRead r ≡ false
-unfolding endAt keepsRead
+pub keeps-bad : (r : Read Action) (at : ℕ) → endFrom at r ≡ Malformed → keepsRead r ≡ false
+unfolding endFrom keepsRead
 keeps-bad bad at e = refl
 keeps-bad (got x n) at e = let z : _≡_ {A = ℕ} 0 1 = cc in absurd (omega arith)
 
@@ -93,12 +93,12 @@ unfolding keepsRead
 keeps-go true s e = sent-keeps (expression (drop 1 s)) (sentTag (getD s 0 0))
 keeps-go false s e = bare-keeps (getD s 0 0)
 
-keeps-by : (t : Bool) (known : ℕ → Bool) (s : List ℕ) (at end : ℕ) (r : Read Action) → endAt at (provided t r) ≡ Bytes end → keepsRead (provided t r) ≡ keepsRead r
-unfolding provided endAt
+keeps-by : (t : Bool) (known : ℕ → Bool) (s : List ℕ) (at end : ℕ) (r : Read Action) → endFrom at (provided t r) ≡ Bytes end → keepsRead (provided t r) ≡ keepsRead r
+unfolding provided endFrom
 keeps-by true known s at end r e = refl
 keeps-by false known s at end r e = let z : _≡_ {A = ℕ} 0 1 = cc in absurd (omega arith)
 
-pub keeps-is : (known : ℕ → Bool) (s : List ℕ) (at end : ℕ) → endAt at (readAction known s) ≡ Bytes end → keepsRead (readAction known s) ≡ sentLimits s
+pub keeps-is : (known : ℕ → Bool) (s : List ℕ) (at end : ℕ) → endFrom at (readAction known s) ≡ Bytes end → keepsRead (readAction known s) ≡ sentLimits s
 unfolding readAction sentLimits
 keeps-is known s at end e =
     keeps-by (ltb 0 (length s) && known (getD s 0 0)) known s at end (cond (holdsExpression (getD s 0 0)) (after (expression (drop 1 s)) (λ e n. got (send (sentTag (getD s 0 0)) e) (1 + n))) (got (bareAction (getD s 0 0)) 1)) e

@@ -14,41 +14,41 @@ use Rattle.model.specs.Rules.{Rule, readPattern, readAction, readRule, ruleRead
 use Rattle.model.specs.NetworkFile.{ruleLimits}
 use Rattle.expressions.specs.declared.Form.{Form}
 use Rattle.expressions.specs.declared.Form.the-variants.{Bytes, Malformed}
-use Rattle.expressions.specs.Reading.{limitsRead}
+use Rattle.expressions.specs.Reading.{limitsRead, endFrom}
 use Rattle.shapes.specs.declared.Arity.{Arity}
 use Rattle.rules.specs.declared.Parts.{Parts}
 use Rattle.rules.specs.declared.Layout.{Layout}
 use Rattle.rules.specs.declared.Layout.the-variants as layout
-use Rattle.rules.specs.Bodies.{patternCodes, actionCodes, patternsFrom, actionsFrom, endAt, limitsOf, next, layoutOf}
+use Rattle.rules.specs.Bodies.{patternCodes, actionCodes, patternsFrom, actionsFrom, limitsOf, next, layoutOf}
 
 -- ── the exits of reading part by part ────────────────────────────────────────────────────────
 
 module _ (a : Arity) (b : List ℕ) where
-  pub lay-1 : Malformed ≡ endAt 0 (patternsFrom false (a .ins) 0 b) → layout.Malformed ≡ layoutOf a b
+  pub lay-1 : Malformed ≡ endFrom 0 (patternsFrom false (a .ins) 0 b) → layout.Malformed ≡ layoutOf a b
   unfolding layoutOf next
   lay-1 e₁ = rw (← e₁)
 
-  module _ (k : ℕ) (e₁ : Bytes k ≡ endAt 0 (patternsFrom false (a .ins) 0 b)) where
-    pub lay-2 : Malformed ≡ endAt k (patternsFrom true (a .vars) k b) → layout.Malformed ≡ layoutOf a b
+  module _ (k : ℕ) (e₁ : Bytes k ≡ endFrom 0 (patternsFrom false (a .ins) 0 b)) where
+    pub lay-2 : Malformed ≡ endFrom k (patternsFrom true (a .vars) k b) → layout.Malformed ≡ layoutOf a b
     unfolding layoutOf next
     lay-2 e₂ = rw (← e₁, ← e₂)
 
-    module _ (l : ℕ) (e₂ : Bytes l ≡ endAt k (patternsFrom true (a .vars) k b)) where
-      pub lay-3 : Malformed ≡ endAt l (expression (drop l b)) → layout.Malformed ≡ layoutOf a b
+    module _ (l : ℕ) (e₂ : Bytes l ≡ endFrom k (patternsFrom true (a .vars) k b)) where
+      pub lay-3 : Malformed ≡ endFrom l (expression (drop l b)) → layout.Malformed ≡ layoutOf a b
       unfolding layoutOf next
       lay-3 e₃ = rw (← e₁, ← e₂, ← e₃)
 
-      module _ (m : ℕ) (e₃ : Bytes m ≡ endAt l (expression (drop l b))) where
-        pub lay-4 : Malformed ≡ endAt m (actionsFrom false (a .outs) m b) → layout.Malformed ≡ layoutOf a b
+      module _ (m : ℕ) (e₃ : Bytes m ≡ endFrom l (expression (drop l b))) where
+        pub lay-4 : Malformed ≡ endFrom m (actionsFrom false (a .outs) m b) → layout.Malformed ≡ layoutOf a b
         unfolding layoutOf next
         lay-4 e₄ = rw (← e₁, ← e₂, ← e₃, ← e₄)
 
-        module _ (n : ℕ) (e₄ : Bytes n ≡ endAt m (actionsFrom false (a .outs) m b)) where
-          pub lay-5 : Malformed ≡ endAt n (actionsFrom true (a .vars) n b) → layout.Malformed ≡ layoutOf a b
+        module _ (n : ℕ) (e₄ : Bytes n ≡ endFrom m (actionsFrom false (a .outs) m b)) where
+          pub lay-5 : Malformed ≡ endFrom n (actionsFrom true (a .vars) n b) → layout.Malformed ≡ layoutOf a b
           unfolding layoutOf next
           lay-5 e₅ = rw (← e₁, ← e₂, ← e₃, ← e₄, ← e₅)
 
-          module _ (q : ℕ) (e₅ : Bytes q ≡ endAt n (actionsFrom true (a .vars) n b)) where
+          module _ (q : ℕ) (e₅ : Bytes q ≡ endFrom n (actionsFrom true (a .vars) n b)) where
             pub lay-6 : (q ≡ length b → ⊥) → layout.Malformed ≡ layoutOf a b
             unfolding layoutOf next
             lay-6 d = rw (← e₁, ← e₂, ← e₃, ← e₄, ← e₅, ne-eqb q (length b) d)
@@ -64,8 +64,8 @@ isLaid layout.Malformed = false
 isLaid (layout.Whole p) = true
 
 module _ (b : List ℕ) where
-  link : {A : Type 0} (k : ℕ) (r : Read A) (g : ℕ → Layout) (h : A → ℕ → Read Rule) → ((x : A) (n : ℕ) → isLaid (g (k + n)) ≡ isWhole (h x n) b) → isLaid (next (endAt k r) g) ≡ isWhole (after r h) b
-  unfolding isLaid next endAt isWhole after
+  link : {A : Type 0} (k : ℕ) (r : Read A) (g : ℕ → Layout) (h : A → ℕ → Read Rule) → ((x : A) (n : ℕ) → isLaid (g (k + n)) ≡ isWhole (h x n) b) → isLaid (next (endFrom k r) g) ≡ isWhole (after r h) b
+  unfolding isLaid next endFrom isWhole after
   link k bad g h e = refl
   link k (got x n) g h e = e x n
 
@@ -102,8 +102,8 @@ pub record Found {A : Type 0} (r : Read A) (at end : ℕ) : Type 0 where
   pub read : r ≡ got thing size
   pub ends : end ≡ at + size
 
-pub found : {A : Type 0} (r : Read A) (at end : ℕ) → endAt at r ≡ Bytes end → Found r at end
-unfolding endAt
+pub found : {A : Type 0} (r : Read A) (at end : ℕ) → endFrom at r ≡ Bytes end → Found r at end
+unfolding endFrom
 found bad at end e = let z : _≡_ {A = ℕ} 0 1 = cc in absurd (omega arith)
 found (got x n) at end e = record { thing = x; size = n; read = refl; ends = cc }
 
@@ -122,13 +122,13 @@ whole-if false q p e = let z : _≡_ {A = ℕ} 0 1 = cc in absurd (omega arith)
 pub laid : (a : Arity) (b : List ℕ) (p : Parts) → layoutOf a b ≡ layout.Whole p → Laid a b p
 unfolding layoutOf
 laid a b p e =
-    let w₁ = went (endAt 0 (patternsFrom false (a .ins) 0 b)) _ p e in
-    let w₂ = went (endAt (w₁ .to) (patternsFrom true (a .vars) (w₁ .to) b)) _ p (w₁ .rest) in
-    let w₃ = went (endAt (w₂ .to) (expression (drop (w₂ .to) b))) _ p (w₂ .rest) in
-    let w₄ = went (endAt (w₃ .to) (actionsFrom false (a .outs) (w₃ .to) b)) _ p (w₃ .rest) in
-    let w₅ = went (endAt (w₄ .to) (actionsFrom true (a .vars) (w₄ .to) b)) _ p (w₄ .rest) in
+    let w₁ = went (endFrom 0 (patternsFrom false (a .ins) 0 b)) _ p e in
+    let w₂ = went (endFrom (w₁ .to) (patternsFrom true (a .vars) (w₁ .to) b)) _ p (w₁ .rest) in
+    let w₃ = went (endFrom (w₂ .to) (expression (drop (w₂ .to) b))) _ p (w₂ .rest) in
+    let w₄ = went (endFrom (w₃ .to) (actionsFrom false (a .outs) (w₃ .to) b)) _ p (w₃ .rest) in
+    let w₅ = went (endFrom (w₄ .to) (actionsFrom true (a .vars) (w₄ .to) b)) _ p (w₄ .rest) in
     let w = whole-if (eqb (w₅ .to) (length b)) (record { vars = w₁ .to; guard = w₂ .to; outs = w₃ .to; sets = w₄ .to }) p (w₅ .rest) in
-    let last : endAt (w₄ .to) (actionsFrom true (a .vars) (w₄ .to) b) ≡ Bytes (length b) = w₅ .here ∙ ap Bytes (eqb-true (w₅ .to) (length b) (w .0)) in
+    let last : endFrom (w₄ .to) (actionsFrom true (a .vars) (w₄ .to) b) ≡ Bytes (length b) = w₅ .here ∙ ap Bytes (eqb-true (w₅ .to) (length b) (w .0)) in
     let there : Laid a b (record { vars = w₁ .to; guard = w₂ .to; outs = w₃ .to; sets = w₄ .to }) = record {
       ins = found (patternsFrom false (a .ins) 0 b) 0 (w₁ .to) (w₁ .here);
       vars = found (patternsFrom true (a .vars) (w₁ .to) b) (w₁ .to) (w₂ .to) (w₂ .here);

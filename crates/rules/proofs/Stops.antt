@@ -9,21 +9,22 @@ use lib.ListN.{drop}
 use borrow.Author.Tests.{lt-ltb, le-ltb, eq-eqb, ne-eqb}
 use Rattle.model.specs.Expressions.{expression}
 use Rattle.model.specs.Rules.{readPattern, readAction}
+use Rattle.expressions.specs.Reading.{endFrom}
 use Rattle.expressions.specs.declared.Form.{Form}
 use Rattle.expressions.specs.declared.Form.the-variants.{Bytes, Malformed}
 use Rattle.shapes.specs.declared.Arity.{Arity}
-use Rattle.rules.specs.Bodies.{patternCodes, actionCodes, endAt, partEnd, stopOr, readFrom, readTo}
+use Rattle.rules.specs.Bodies.{patternCodes, actionCodes, partEnd, stopOr, readFrom, readTo}
 
 module _ (a : Arity) (b : List ℕ) (k at : ℕ) {r : Form} where
-  pub part-pattern : k < a .ins + a .vars → r ≡ endAt at (readPattern (patternCodes (leb (a .ins) k)) (drop at b)) → r ≡ partEnd a k at b
+  pub part-pattern : k < a .ins + a .vars → r ≡ endFrom at (readPattern (patternCodes (leb (a .ins) k)) (drop at b)) → r ≡ partEnd a k at b
   unfolding partEnd
   part-pattern h e = rw (lt-ltb k (a .ins + a .vars) h) e
 
-  pub part-guard : k ≡ a .ins + a .vars → r ≡ endAt at (expression (drop at b)) → r ≡ partEnd a k at b
+  pub part-guard : k ≡ a .ins + a .vars → r ≡ endFrom at (expression (drop at b)) → r ≡ partEnd a k at b
   unfolding partEnd
   part-guard h e = rw (le-ltb k (a .ins + a .vars) (omega arith), eq-eqb k (a .ins + a .vars) h) e
 
-  pub part-action : a .ins + a .vars ≤ k → (k ≡ a .ins + a .vars → ⊥) → r ≡ endAt at (readAction (actionCodes (ltb (a .ins + a .vars + a .outs) k)) (drop at b)) → r ≡ partEnd a k at b
+  pub part-action : a .ins + a .vars ≤ k → (k ≡ a .ins + a .vars → ⊥) → r ≡ endFrom at (readAction (actionCodes (ltb (a .ins + a .vars + a .outs) k)) (drop at b)) → r ≡ partEnd a k at b
   unfolding partEnd
   part-action h n e = rw (le-ltb k (a .ins + a .vars) h, ne-eqb k (a .ins + a .vars) n) e
 

@@ -2,12 +2,13 @@
 use expressions::Form;
 use shapes::Arity;
 ghost use mathlib.Core.Path.{_≡_};
+ghost use mathlib.Core.Bool.{true};
 ghost use Prim.Native.Nat.{_≤_};
 ghost use lib.ListN.{drop};
 ghost use Rattle.model.specs.Expressions.{expression};
 ghost use Rattle.model.specs.Rules.{patternSize, readPattern, readAction, holdsExpression};
-ghost use Rattle.expressions.specs.Reading.{limitsRead};
-ghost use Rattle.rules.specs.Bodies.{patternCodes, actionCodes, patternsFrom, actionsFrom, endAt, sentLimits, layoutOf, partEnd, readTo};
+ghost use Rattle.expressions.specs.Reading.{endFrom, isRead, skipTo, limitsRead};
+ghost use Rattle.rules.specs.Bodies.{patternCodes, actionCodes, anyCode, patternsFrom, actionsFrom, sentLimits, layoutOf, partEnd, readTo};
 
 // Where a rule's variable patterns, its guard, its output actions and its variable actions begin.
 pub struct Parts {
@@ -45,7 +46,7 @@ pub fn pattern_size(c: u8) -> usize
 
 // Where the pattern at an offset ends.
 pub fn pattern_end(b: &[u8], at: usize, var: bool) -> Form
-    ensures { λ r. ⌜ r ≡ endAt at (readPattern (patternCodes var) (drop at (now (b .entry)))) ⌝ }
+    ensures { λ r. ⌜ r ≡ endFrom at (readPattern (patternCodes var) (drop at (now (b .entry)))) ⌝ }
 {
     if b.len() <= at {
         return Form::Malformed;
@@ -61,9 +62,17 @@ pub fn pattern_end(b: &[u8], at: usize, var: bool) -> Form
     Form::Bytes(at + n)
 }
 
+// The offset after the pattern at an offset, where one is known to stand: nothing is checked again.
+pub fn skip_pattern(b: &[u8], at: usize) -> usize
+    requires { ⌜ isRead (readPattern anyCode (drop at (now b))) ≡ true ⌝ }
+    ensures { λ r. ⌜ r ≡ skipTo at (readPattern anyCode (drop at (now (b .entry)))) ⌝ }
+{
+    at + pattern_size(b[at])
+}
+
 // Where n patterns from an offset on end.
 fn patterns_end(b: &[u8], from: usize, n: usize, var: bool) -> Form
-    ensures { λ r. ⌜ r ≡ endAt from (patternsFrom var n from (now (b .entry))) ⌝ }
+    ensures { λ r. ⌜ r ≡ endFrom from (patternsFrom var n from (now (b .entry))) ⌝ }
 {
     let mut at = from;
     let mut left = n;
@@ -79,15 +88,12 @@ fn patterns_end(b: &[u8], from: usize, n: usize, var: bool) -> Form
 
 // Where the expression at an offset ends.
 pub fn expression_end(b: &[u8], at: usize) -> Form
-    ensures { λ r. ⌜ r ≡ endAt at (expression (drop at (now (b .entry)))) ⌝ }
+    ensures { λ r. ⌜ r ≡ endFrom at (expression (drop at (now (b .entry)))) ⌝ }
 {
     if b.len() <= at {
         return Form::Malformed;
     }
-    let Form::Bytes(n) = expressions::size(&b[at..]) else {
-        return Form::Malformed;
-    };
-    Form::Bytes(at + n)
+    expressions::end_of(b, at)
 }
 
 // A code of a variable's action, or of an output's.
@@ -109,7 +115,7 @@ pub fn holds_expression(c: u8) -> bool
 
 // Where the action at an offset ends.
 pub fn action_end(b: &[u8], at: usize, var: bool) -> Form
-    ensures { λ r. ⌜ r ≡ endAt at (readAction (actionCodes var) (drop at (now (b .entry)))) ⌝ }
+    ensures { λ r. ⌜ r ≡ endFrom at (readAction (actionCodes var) (drop at (now (b .entry)))) ⌝ }
 {
     if b.len() <= at {
         return Form::Malformed;
@@ -124,9 +130,21 @@ pub fn action_end(b: &[u8], at: usize, var: bool) -> Form
     Form::Bytes(at + 1)
 }
 
+// The offset after the action at an offset, where one is known to stand: nothing is checked again.
+pub fn skip_action(b: &[u8], at: usize) -> usize
+    requires { ⌜ isRead (readAction anyCode (drop at (now b))) ≡ true ⌝ }
+    ensures { λ r. ⌜ r ≡ skipTo at (readAction anyCode (drop at (now (b .entry)))) ⌝ }
+{
+    let c = b[at];
+    if holds_expression(c) {
+        return expressions::skip(b, at + 1);
+    }
+    at + 1
+}
+
 // Where n actions from an offset on end.
 fn actions_end(b: &[u8], from: usize, n: usize, var: bool) -> Form
-    ensures { λ r. ⌜ r ≡ endAt from (actionsFrom var n from (now (b .entry))) ⌝ }
+    ensures { λ r. ⌜ r ≡ endFrom from (actionsFrom var n from (now (b .entry))) ⌝ }
 {
     let mut at = from;
     let mut left = n;

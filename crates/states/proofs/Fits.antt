@@ -3,7 +3,7 @@
 use Prim.Native.Nat.{ℕ, zero, suc, _+_, _-_, _*_, _≤_, _<_}
 use mathlib.Core.Path.{_≡_, refl, sym, ap, ap₂, _∙_}
 use mathlib.Core.Bool.{Bool, true, false, not, _&&_, _||_}
-use mathlib.Core.List.{List, [], _++_, map, zipWith, append-assoc, append-nil}
+use mathlib.Core.List.{List, [], _++_, map, zipWith}
 use native.Mathlib.Omega.{arith}
 use native.Mathlib.Nat.{add-sub-cancel-left}
 use lib.Dec.{leb}
@@ -13,7 +13,7 @@ use Rattle.model.specs.declared.Ty.{Ty}
 use Rattle.model.specs.declared.Token.{Token}
 use Rattle.model.specs.Bytes.{twoAt}
 use Rattle.model.specs.Network.{Wire, Proc, box, input, output, Net, wire, proc, noWire, nobody}
-use Rattle.model.specs.NetworkFile.{Index, tabulate, bodyAt, boxOf, inputAt, outputAt, netOf}
+use Rattle.model.specs.NetworkFile.{Index, tabulate, bodyAt, boxOf, netOf}
 use Rattle.model.specs.States.{tokensIn, wireSize, ownSize, wiresSize, sum, roomFits, wireFits, valuesFit, ownFits, split, allTrue, stateFits}
 use Rattle.model.proofs.Decoded.{getD-map-lt}
 use Rattle.model.proofs.Lookup.{wires-length, procs-length, box-proc}
@@ -25,7 +25,7 @@ use Rattle.lookup.specs.Ends.{wireAt, roomAt}
 use Rattle.lookup.proofs.Tabled.{valid, n-wires, n-boxes, n-inputs, n-outputs, input-is, output-is}
 use Rattle.tokens.specs.Parts.{Precise}
 use Rattle.tokens.proofs.Lifts.{precise, fits-box, fits-output}
-use Rattle.tokens.proofs.Turns.{allFit, boxesOf, inputsOf, outputsOf, state-fits, fit-turn, fit-done, start-turn}
+use Rattle.tokens.proofs.Turns.{allFit, state-fits, fit-turn, fit-done, start-turn}
 use Rattle.tokens.proofs.Groups.{fits-input}
 use Rattle.places.specs.Standing.{bareNet, tokensOf, netIn}
 use Rattle.places.proofs.Standing.{own-sizes}
@@ -188,25 +188,3 @@ module _ (s : List ℕ) (y : Index) (a b : List (List Token)) where
   own-loose (box v) l = refl
   own-loose (input w ks) l = refl
   own-loose (output w room) l = refl
-
-  procs-loose : (l : List ℕ) → allFit (ownFits (netOf s y a) false) ownSize ((netOf s y a) .procs) l ≡ allFit (ownFits (netOf s y b) false) ownSize ((netOf s y b) .procs) l
-  procs-loose l =
-      let f : Proc → List ℕ → Bool = ownFits (netOf s y a) false in
-      let g : Proc → List ℕ → Bool = ownFits (netOf s y b) false in
-      let apart : (ks : List (List Token)) (u : Proc → List ℕ → Bool) → allFit u ownSize ((netOf s y ks) .procs) l ≡ allFit u ownSize (boxesOf s y ++ (inputsOf s y ks ++ outputsOf s y)) l
-      = λ ks u. unfold netOf in ap (λ (ps : List Proc). allFit u ownSize ps l) (append-assoc (boxesOf s y) (inputsOf s y ks) (outputsOf s y)) in
-      apart a f
-      ∙ alike f g (length (y .boxes)) _ _ (inputsOf s y a ++ outputsOf s y) (inputsOf s y b ++ outputsOf s y) (λ i m. own-loose _ m) (λ i. refl)
-      (alike f g (length (y .inputs)) (inputAt s y a) (inputAt s y b) (outputsOf s y) (outputsOf s y) (λ i m. unfold inputAt ownFits in refl) (λ i. unfold inputAt ownSize in refl)
-      (λ m. ap (λ (ps : List Proc). allFit f ownSize ps m) (sym (append-nil (outputsOf s y)))
-      ∙ alike f g (length (y .outputs)) (outputAt s y) (outputAt s y) [] [] (λ i k. own-loose _ k) (λ i. refl) (λ k. unfold zipWith allTrue in refl) m
-      ∙ ap (λ (ps : List Proc). allFit g ownSize ps m) (append-nil (outputsOf s y)))) l
-      ∙ sym (apart b g)
-
-  pub fits-loose : (st : List ℕ) → stateFits (netOf s y a) false st ≡ stateFits (netOf s y b) false st
-  fits-loose st =
-      let m : wiresSize (netOf s y a) ≡ wiresSize (netOf s y b) = unfold netOf wiresSize in refl in
-      let w : allFit wireFits wireSize ((netOf s y a) .wires) st ≡ allFit wireFits wireSize ((netOf s y b) .wires) st = unfold netOf in refl in
-      state-fits (netOf s y a) false st
-      ∙ ap₂ (λ (u v : Bool). u && v) w (ap (λ (i : ℕ). allFit (ownFits (netOf s y a) false) ownSize ((netOf s y a) .procs) (drop i st)) m ∙ procs-loose (drop (wiresSize (netOf s y b)) st))
-      ∙ sym (state-fits (netOf s y b) false st)

@@ -1,8 +1,8 @@
 -- What each of these firings asks, from the readiness that a cycle keeps; and the model's firing by them.
 -- Assumes nothing.
-use mathlib.Core.Path.{_≡_, refl, sym, ap, _∙_, subst}
-use mathlib.Core.Bool.{true, false, not, _&&_}
-use mathlib.Core.List.{List, [], map}
+use mathlib.Core.Path.{_≡_, refl}
+use mathlib.Core.Bool.{false, not, _&&_}
+use mathlib.Core.List.{List, []}
 use Prim.Native.Nat.{ℕ, _+_, _≤_, _<_}
 use native.Mathlib.Omega.{arith}
 use lib.Dec.{eqb, ltb}
@@ -12,7 +12,7 @@ use Rattle.model.specs.declared.Token.{Token}
 use Rattle.model.specs.Rules.{Pattern}
 use Rattle.model.specs.Network.{Box, Proc, box, input, output, Net, Own, State, noToken, proc, rule, queue, own, takenOf, gotOf, insOf, outsOf}
 use Rattle.model.specs.NetworkFile.{boxAt}
-use Rattle.model.specs.Cycles.{Move, Mark, fires, empty, oldest, full, reads, seen, look, moves, takeAll, readsOf, sentOf, keptOf, deedOf, deed, fire, markOf, mark, ruleOf}
+use Rattle.model.specs.Cycles.{Mark, fires, empty, oldest, full, seen, look, moves, readsOf, sentOf, keptOf, deedOf, deed, fire, markOf, mark}
 use Rattle.model.specs.Orders.{onWire}
 use Rattle.model.proofs.Tests.{and-left, and-right}
 use Rattle.model.proofs.Lookup.{box-proc}
@@ -21,13 +21,12 @@ use Rattle.model.proofs.Order.{Ready, length-joined, hit-same}
 use Rattle.table.specs.declared.Counts.{Counts}
 use Rattle.table.specs.Table.{indexIn}
 use Rattle.rules.specs.Bodies.{patternsFrom}
-use Rattle.typing.specs.Fits.{isRead, listRead}
+use Rattle.typing.specs.Fits.{listRead}
 use Rattle.lookup.proofs.Tabled.{n-boxes, input-known, output-known}
 use Rattle.places.specs.Standing.{tokensOf, netIn, Standing, stateOf}
 use Rattle.lookup.specs.Ends.{wireAt, roomAt}
 use Rattle.moves.specs.Moves.{tokensAt}
 use Rattle.taking.specs.Taking.{fired, InputReady, OutputReady}
-use Rattle.taking.specs.Reading.{readFrom, afterReading, CanRead}
 use Rattle.taking.proofs.Firing.{OutputAt, InputAt, output-at, input-at}
 
 -- ── one wire, one token ──────────────────────────────────────────────────────────────────────
@@ -49,11 +48,6 @@ module _ (n : Net) (m : ℕ → Mark) (k : ℕ) (s : State) (w : ℕ) where
   input-fire : (q : List Token) → proc n k ≡ input w q → fire n m k s ≡ fired n k 0 s
   unfolding fire deed fired readsOf deedOf sentOf keptOf
   input-fire q e = rw e refl
-
--- what a box takes
-box-took : (n : Net) (m : ℕ → Mark) (k : ℕ) (s : State) (b : Box) → proc n k ≡ box b → (deed n m k s) .took ≡ moves (b .ins) (look s (b .ins) (map reads ((rule b (ruleOf (m k))) .ins)))
-unfolding deed deedOf insOf readsOf
-box-took n m k s b e = rw e refl
 
 -- ── what a mark says beside the wires ────────────────────────────────────────────────────────
 
@@ -129,15 +123,3 @@ module _ (s t p ts b : List ℕ) (c : Counts) (h : Standing s t p ts b c) (m : �
 
     abbrev ps : List Pattern
     ps = listRead (patternsFrom false (length ws) 0 body)
-
-    took-read : (rule its (ruleOf (m k))) .ins ≡ ps → (deed n m k st) .took ≡ moves ws (look st ws (readFrom (length ws) 0 body))
-    unfolding readFrom
-    took-read f = box-took n m k st its is-box ∙ ap (λ (xs : List Pattern). moves ws (look st ws (map reads xs))) f
-
-    pub box-due : isRead (patternsFrom false (length ws) 0 body) ≡ true → (rule its (ruleOf (m k))) .ins ≡ ps
-        → CanRead c st ws k body × (afterReading ws (readFrom (length ws) 0 body) st ≡ record { queues = takeAll ((deed n m k st) .took) (st .queues); owns = st .owns })
-    unfolding afterReading
-    box-due e f = (
-      record { known = l; whole = e; holds = record { has = subst (λ (ms : List Move). (w : ℕ) → length (onWire w ms) ≤ length (queue st w)) (took-read f) (q .has) } },
-      ap (λ (ms : List Move). record { queues = takeAll ms (st .queues); owns = st .owns }) (sym (took-read f)),
-    )

@@ -21,11 +21,13 @@ use Rattle.model.specs.NetworkFile.{hit}
 use Rattle.model.specs.Cycles.{reads, oldest, seen, look, moves, takeAll}
 use Rattle.model.specs.Orders.{onWire}
 use Rattle.model.proofs.Order.{length-joined, hit-same, hit-other}
+use Rattle.expressions.specs.Reading.{endFrom, isRead, skipTo}
 use Rattle.table.specs.declared.Counts.{Counts}
-use Rattle.expressions.specs.declared.Form.the-variants.{Bytes, Malformed}
-use Rattle.rules.specs.Bodies.{patternCodes, patternsFrom, endAt}
-use Rattle.typing.specs.Fits.{isRead, listRead}
-use Rattle.typing.proofs.Peeling.{peel, not-bad}
+use Rattle.expressions.specs.declared.Form.the-variants.{Bytes}
+use Rattle.rules.specs.Bodies.{patternCodes, anyCode, patternsFrom}
+use Rattle.rules.proofs.Ends.{pattern-there, pattern-skip}
+use Rattle.typing.specs.Fits.{listRead}
+use Rattle.typing.proofs.Peeling.{peel, first-read}
 use Rattle.typing.proofs.Patterns.{pattern-at, read-step, minus-zero}
 use Rattle.places.specs.Standing.{Standing, stateOf}
 use Rattle.moves.specs.Moves.{Became, CanTake, withQueue, afterTake}
@@ -158,11 +160,17 @@ module _ (s t p ts b₀ : List ℕ) (c : Counts) (ws body : List ℕ) where
       subst (Became s t p ts b₀ c b) (sym e ∙ q .whole) (q .became)
 
   module _ (j at : ℕ) (b : List ℕ) (q : Left s t p ts b₀ c ws body j at b) (l : j < length ws) where
-    pub left-bad : endAt at (readPattern (patternCodes false) (drop at body)) ≡ Malformed → ⊥
+    is-read : isRead (readPattern (patternCodes false) (drop at body)) ≡ true
     unfolding patternsFrom
-    left-bad e = not-bad (readPattern (patternCodes false)) body (length ws - j) at (omega (arith, l)) (q .read) e
+    is-read = first-read (readPattern (patternCodes false)) body (length ws - j) at (omega (arith, l)) (q .read)
 
-    module _ (end code : ℕ) (e : endAt at (readPattern (patternCodes false) (drop at body)) ≡ Bytes end) (d : code ≡ getD body at 0) where
+    pub left-there : isRead (readPattern anyCode (drop at body)) ≡ true
+    left-there = pattern-there (patternCodes false) body at is-read
+
+    module _ (end code : ℕ) (g : end ≡ skipTo at (readPattern anyCode (drop at body))) (d : code ≡ getD body at 0) where
+      e : endFrom at (readPattern (patternCodes false) (drop at body)) ≡ Bytes end
+      e = pattern-skip (patternCodes false) body at is-read end g
+
       abbrev r : Bool
       r = not (eqb code 0)
 

@@ -9,9 +9,10 @@ use lib.ListN.{length, getD}
 use Rattle.model.specs.Network.{State, queue}
 use Rattle.model.specs.Cycles.{reads, look, moves, takeAll}
 use Rattle.model.specs.Orders.{onWire}
+use Rattle.expressions.specs.Reading.{isRead}
 use Rattle.table.specs.declared.Counts.{Counts}
 use Rattle.rules.specs.Bodies.{patternsFrom}
-use Rattle.typing.specs.Fits.{isRead, listRead}
+use Rattle.typing.specs.Fits.{listRead}
 use Rattle.moves.specs.Moves.{afterTake}
 
 -- which inputs are read by the n patterns from an offset of a rule's body on

@@ -1,5 +1,4 @@
 // The part of a firing that takes tokens from wires, and the whole firing of an input and of an output, in place on the lent state.
-use expressions::Form;
 use model::ProcessId;
 use table::Counts;
 ghost use mathlib.Core.Bool.{not};
@@ -102,12 +101,10 @@ pub fn take_read(
     let mut at = 0;
     let mut j = 0;
     while j < n {
-        let Form::Bytes(end) = rules::pattern_end(body, at, false) else {
-            return;
-        };
+        let next = rules::skip_pattern(body, at);
         let code = octets::byte_at(body, at);
         take_at(net, table, c, starts, tokens, k, j, code, state);
-        at = end;
+        at = next;
         j += 1;
     }
 }

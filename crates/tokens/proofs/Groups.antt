@@ -1,29 +1,25 @@
 -- The wires, boxes, inputs and outputs of a network file, group by group: the check of a state, and a load written box by box.
 -- Assumes nothing.
-use Prim.Native.Nat.{ℕ, zero, suc, _+_, _*_, _/_, _≤_, _<_}
+use Prim.Native.Nat.{ℕ, zero, suc, _+_, _*_, _/_, _≤_}
 use mathlib.Core.Path.{_≡_, refl, sym, ap, ap₂, _∙_}
-use mathlib.Core.Bool.{Bool, true, false, not, cond, _&&_, _||_}
+use mathlib.Core.Bool.{Bool, true, false, not, cond, _||_}
 use mathlib.Core.List.{List, [], _∷_, _++_, map, append-assoc, append-nil}
 use native.Mathlib.Omega.{arith}
 use native.Mathlib.Numerals.{add-one}
 use lib.Dec.{leb, ltb}
 use lib.ListN.{length, getD, drop, replicate, length-append, length-map, length-replicate}
-use lib.Seq.{drop-drop}
 use borrow.Author.Tests.{ltb-false}
-use Rattle.model.specs.declared.Ty.{Ty}
 use Rattle.model.specs.declared.Token.{Token}
 use Rattle.model.specs.declared.Field.the-variants.{At, Cut}
 use Rattle.model.specs.Bytes.{twoAt, stretch}
-use Rattle.model.specs.Expressions.{typeAt}
-use Rattle.model.specs.Network.{Wire, Variable, Proc, box, input, output, Net, noWire, fresh, varsOf, loaded}
-use Rattle.model.specs.NetworkFile.{Index, fieldAt, tabulate, bodyAt, wireOf, wiresOf, netOf, boxAt, inputAt}
-use Rattle.model.specs.States.{cat, sum, ownBytes, bytesOf, wireSize, ownSize, wiresSize, stateSize, wireFits, ownFits, stateFits, tokensIn}
-use Rattle.model.proofs.Decoded.{getD-map-lt}
+use Rattle.model.specs.Network.{Variable, Proc, box, input, output, Net, fresh, varsOf, loaded}
+use Rattle.model.specs.NetworkFile.{Index, fieldAt, tabulate, bodyAt, netOf, boxAt, inputAt}
+use Rattle.model.specs.States.{cat, sum, ownBytes, bytesOf, ownSize, wiresSize, stateSize, ownFits, tokensIn}
 use Rattle.queues.specs.Segments.{putMid}
 use Rattle.queues.proofs.Queues.{length-values, input-empty, output-empty}
 use Rattle.queues.proofs.Reading.{length-read}
 use Rattle.tokens.proofs.Laws.{tabulate-snoc}
-use Rattle.tokens.proofs.Turns.{allFit, state-fits, fit-append, write-on, freshBytes, loaded-net, boxesOf, inputsOf, outputsOf, sizes-append}
+use Rattle.tokens.proofs.Turns.{write-on, freshBytes, loaded-net, boxesOf, inputsOf, outputsOf, sizes-append}
 
 -- ── a field that is there ────────────────────────────────────────────────────────────────────
 
@@ -54,38 +50,9 @@ length-tokens-in b = length-read (length b / 5) b
 
 -- ── the check of a state ─────────────────────────────────────────────────────────────────────
 
--- wire i, with its type and capacity told otherwise
-pub fits-wire : (s : List ℕ) (x : Index) (i capacity : ℕ) (t : Ty) (part : List ℕ) → i < length (x .wires) → t ≡ typeAt s (getD (x .wires) i 0 + 3) → capacity ≡ getD s (getD (x .wires) i 0 + 5) 0 →
-    wireFits (record { ty = t; capacity = capacity }) part ≡ wireFits (getD (wiresOf s x) i noWire) part
-unfolding wiresOf wireOf
-fits-wire s x i capacity t part h e f =
-    (λ k. wireFits (record { ty = e k; capacity = f k }) part) ∙ ap (λ (w : Wire). wireFits w part) (sym (getD-map-lt (wireOf s) (x .wires) i 0 noWire h))
-
 pub fits-input : (n : Net) (counted : Bool) (w : ℕ) (ts : List Token) (part : List ℕ) → ownFits n counted (input w ts) part ≡ (not counted || leb (twoAt part 0) (length ts))
 unfolding ownFits
 fits-input n counted w ts part = refl
-
-module _ (s : List ℕ) (x : Index) (tokens : List (List Token)) (counted : Bool) (st : List ℕ) where
-  -- the network of the file
-  abbrev pub netIs : Net
-  netIs = netOf s x tokens
-
-  -- the wires, then the boxes, the inputs and the outputs
-  pub state-net : stateFits netIs counted st ≡ (allFit wireFits wireSize (wiresOf s x) st
-      && (allFit (ownFits netIs counted) ownSize (boxesOf s x) (drop (wiresSize netIs) st)
-      && allFit (ownFits netIs counted) ownSize (inputsOf s x tokens) (drop (wiresSize netIs + sum (map ownSize (boxesOf s x))) st)
-      && allFit (ownFits netIs counted) ownSize (outputsOf s x) (drop (wiresSize netIs + sum (map ownSize (boxesOf s x ++ inputsOf s x tokens))) st)))
-  unfolding netOf
-  state-net =
-      let f : Proc → List ℕ → Bool = ownFits netIs counted in
-      let a : ℕ = wiresSize netIs in
-      let before : List Proc = boxesOf s x ++ inputsOf s x tokens in
-      state-fits netIs counted st
-      ∙ ap (λ (b : Bool). allFit wireFits wireSize (wiresOf s x) st && b)
-      (fit-append f ownSize before (outputsOf s x) (drop a st)
-      ∙ ap₂ (λ (b : Bool) (l : List ℕ). b && allFit f ownSize (outputsOf s x) l)
-      (fit-append f ownSize (boxesOf s x) (inputsOf s x tokens) (drop a st) ∙ ap (λ (l : List ℕ). allFit f ownSize (boxesOf s x) (drop a st) && allFit f ownSize (inputsOf s x tokens) l) (drop-drop (sum (map ownSize (boxesOf s x))) a st))
-      (drop-drop (sum (map ownSize before)) a st))
 
 -- ── sizes ────────────────────────────────────────────────────────────────────────────────────
 
@@ -145,10 +112,6 @@ module _ (w : ℕ) (h : ℕ → Proc) (s₀ s : List ℕ) (j at : ℕ) (e : s �
   -- the part of box j, written
   pub load-turn : (k : ℕ) (last : List ℕ) → last ≡ freshBytes (h j) → putMid at k s last ≡ loadedTo w h (j + 1) ++ drop (at + k) s₀
   load-turn k last f = write-on (loadedTo w h j) s₀ s last at k e (length-loaded w h j ∙ sym a) ∙ ap (λ (l : List ℕ). l ++ drop (at + k) s₀) (ap (λ (l : List ℕ). loadedTo w h j ++ l) f ∙ loaded-snoc w h j)
-
-  -- zeros for what is left
-  pub load-rest : (k : ℕ) (last : List ℕ) → last ≡ replicate k 0 → putMid at k s last ≡ (loadedTo w h j ++ replicate k 0) ++ drop (at + k) s₀
-  load-rest k last f = write-on (loadedTo w h j) s₀ s last at k e (length-loaded w h j ∙ sym a) ∙ ap (λ (l : List ℕ). (loadedTo w h j ++ l) ++ drop (at + k) s₀) f
 
 -- all boxes, and the zeros behind them
 pub load-net : (s : List ℕ) (x : Index) (tokens : List (List Token)) → bytesOf (netOf s x tokens) (loaded (netOf s x tokens)) ≡

@@ -1,13 +1,12 @@
 -- What callers need beside the contracts: what an accepted box gives, and parts of a state and of a network in the model's words.
 -- Assumes nothing.
 use Prim.Native.Nat.{ℕ, _+_, _-_, _*_, _≤_}
-use mathlib.Core.Path.{_≡_, refl, sym, ap, ap₂, _∙_}
+use mathlib.Core.Path.{_≡_, refl, sym, ap₂}
 use mathlib.Core.Bool.{Bool, true}
 use mathlib.Core.List.{List, _∷_, _++_}
 use native.Mathlib.Omega.{arith}
 use lib.Dec.{leb, ltb}
-use lib.ListN.{length, getD, take, drop, replicate, length-append, length-drop}
-use lib.Seq.{take-at, drop-at}
+use lib.ListN.{length, getD, drop, length-append, length-drop}
 use borrow.Author.Tests.{leb-true}
 use Rattle.model.specs.declared.Ty.{Ty}
 use Rattle.model.specs.declared.Token.{Token}
@@ -16,11 +15,11 @@ use Rattle.model.specs.Values.{inPrecision}
 use Rattle.model.specs.Expressions.{typeAt}
 use Rattle.model.specs.Network.{box, output, Net, got, gotOf, wire, fresh, varsOf}
 use Rattle.model.specs.NetworkFile.{Index, every, variableStart, boxLimits, bodyAt, boxOf, boxAt}
-use Rattle.model.specs.States.{tokensBytes, roomBytes, ownBytes, roomFits, valuesFit, ownFits, ownIn, outputField}
+use Rattle.model.specs.States.{tokensBytes, ownBytes, roomFits, valuesFit, ownFits, ownIn, outputField}
 use Rattle.model.proofs.Tests.{and₂, and₅}
 use Rattle.model.proofs.Decoded.{every-at}
 use Rattle.octets.proofs.Laws.{Octets, length-two}
-use Rattle.queues.proofs.Queues.{length-tokens, got-count}
+use Rattle.queues.proofs.Queues.{length-tokens}
 use Rattle.queues.proofs.Reading.{octets-drop, tokens-take, length-read, room-count}
 use Rattle.tokens.specs.Parts.{Precise, fieldBytes}
 
@@ -66,16 +65,6 @@ field-in w room s b h =
     let k : ℕ = twoAt s 0 in
     let d : 5 * k ≤ length (drop 2 s) = simp length-drop (omega arith) in
     ap₂ (λ (j : ℕ) (l : List ℕ). 33 ∷ (twoBytes (5 * j) ++ l)) (sym (length-read k (drop 2 s))) (sym (tokens-take k (drop 2 s) (octets-drop 2 s b) d))
-
--- the field of a part that is the layout of tokens
-pub field-own : (w room : ℕ) (ts : List Token) → fieldBytes (ownBytes (output w room) (got ts)) ≡ outputField (output w room) (got ts)
-unfolding fieldBytes ownBytes outputField gotOf roomBytes
-field-own w room ts =
-    let r : List ℕ = tokensBytes ts ++ replicate ((room - length ts) * 5) 0 in
-    let s : List ℕ = twoBytes (length ts) ++ r in
-    ap (λ (k : ℕ). 33 ∷ (twoBytes (5 * k) ++ take (5 * k) (drop 2 s))) (got-count w room ts)
-    ∙ ap (λ (l : List ℕ). 33 ∷ (twoBytes (5 * length ts) ++ l))
-    (ap (λ (l : List ℕ). take (5 * length ts) l) (drop-at (twoBytes (length ts)) r 2 (length-two (length ts))) ∙ take-at (tokensBytes ts) (replicate ((room - length ts) * 5) 0) (5 * length ts) (length-tokens ts))
 
 pub length-field : (w room : ℕ) (ts : List Token) → length (outputField (output w room) (got ts)) ≡ 3 + 5 * length ts
 unfolding outputField gotOf

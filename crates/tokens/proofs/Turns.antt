@@ -7,7 +7,7 @@ use mathlib.Core.List.{List, [], _∷_, _++_, map, zipWith, append-assoc, append
 use native.Mathlib.Omega.{arith}
 use native.Mathlib.Numerals.{add-one}
 use native.Mathlib.Nat.{zero-add}
-use lib.ListN.{length, getD, take, drop, replicate, length-append, drop-of-length-le, replicate-append-replicate}
+use lib.ListN.{length, getD, take, drop, replicate, drop-of-length-le, replicate-append-replicate}
 use lib.Seq.{take-suc, take-all, drop-cons, drop-drop, take-at, drop-at}
 use borrow.Author.Tests.{eq-eqb, ne-eqb}
 use Rattle.model.specs.declared.Ty.{Ty}
@@ -21,7 +21,7 @@ use Rattle.model.specs.States.{wireBytes, ownBytes, cat, segments, bytesOf, wir
 use Rattle.queues.specs.Segments.{mid, putMid, startOf}
 use Rattle.queues.proofs.Segments.{cat-append, sum-append}
 use Rattle.queues.proofs.Queues.{wire-empty, input-empty, output-empty}
-use Rattle.tokens.proofs.Laws.{onFrom, on-turn}
+use Rattle.tokens.proofs.Laws.{onFrom}
 
 -- ── where a part begins ──────────────────────────────────────────────────────────────────────
 
@@ -60,10 +60,6 @@ module _ {A : Type 0} (f : A → List ℕ → Bool) (size : A → ℕ) where
       ap (λ (l : List A). allFit f size l (drop at s)) (drop-cons xs i d h ∙ ap (λ (j : ℕ). getD xs i d ∷ drop j xs) (sym (add-one i)))
       ∙ fit-cons (getD xs i d) (drop (i + 1) xs) s at r b e g
 
-  pub fit-from : (h : ℕ → A) (n j : ℕ) (s : List ℕ) (at : ℕ) (r b : Bool) → j < n → r ≡ f (h j) (mid at (size (h j)) s) → r ≡ b →
-      allFit f size (onFrom h (n - j) j) (drop at s) ≡ (b && allFit f size (onFrom h (n - (j + 1)) (j + 1)) (drop (at + size (h j)) s))
-  fit-from h n j s at r b l e g = ap (λ (xs : List A). allFit f size xs (drop at s)) (on-turn h n j l) ∙ fit-cons (h j) (onFrom h (n - (j + 1)) (j + 1)) s at r b e g
-
   -- none is left
   pub fit-done : (xs : List A) (s : List ℕ) (i : ℕ) → length xs ≤ i → allFit f size (drop i xs) s ≡ true
   unfolding allTrue split zipWith
@@ -82,13 +78,6 @@ module _ {A : Type 0} (f : A → List ℕ → Bool) (size : A → ℕ) where
       ap (λ (b : Bool). f x (take k s) && b) (fit-append xs ys (drop k s) ∙ ap (λ (l : List ℕ). allFit f size xs (drop k s) && allFit f size ys l) (drop-drop (sum (map size xs)) k s))
       ∙ and-assoc (f x (take k s)) (allFit f size xs (drop k s)) (allFit f size ys (drop (k + sum (map size xs)) s))
 
--- all of a numbered group, at its first
-pub on-all : {A : Type 0} (h : ℕ → A) (n : ℕ) → onFrom h (n - 0) 0 ≡ tabulate n h
-on-all h n =
-    let e : n - 0 ≡ n = omega arith in
-    let z : (k : ℕ) → k + 0 ≡ k = λ k. omega arith in
-    λ i. tabulate (e i) (λ k. h (z k i))
-
 -- ── written one after another ────────────────────────────────────────────────────────────────
 
 -- a part written behind what is done
@@ -97,17 +86,6 @@ write-on done s₀ s last at k e l =
     ap (λ (x : List ℕ). putMid at k x last) e
     ∙ ap₂ (λ (x y : List ℕ). x ++ (last ++ drop k y)) (take-at done (drop at s₀) at l) (drop-at done (drop at s₀) at l)
     ∙ ap (λ (x : List ℕ). done ++ (last ++ x)) (drop-drop k at s₀) ∙ sym (append-assoc done last (drop (at + k) s₀))
-
-pub length-on : (done last : List ℕ) (at k : ℕ) → length done ≡ at → length last ≡ k → length (done ++ last) ≡ at + k
-length-on done last at k e f = length-append done last ∙ ap₂ (λ (x y : ℕ). x + y) e f
-
--- segment i of a list, and segment j of a numbered group
-pub cat-turn : (xs : List (List ℕ)) (i : ℕ) → i < length xs → cat (take (i + 1) xs) ≡ cat (take i xs) ++ getD xs i []
-unfolding cat
-cat-turn xs i h = ap cat (ap (λ (j : ℕ). take j xs) (add-one i) ∙ take-suc xs i [] h) ∙ cat-append (take i xs) (getD xs i [] ∷ []) ∙ ap (λ (l : List ℕ). cat (take i xs) ++ l) (append-nil (getD xs i []))
-
-pub cat-done : (xs : List (List ℕ)) (i : ℕ) → length xs ≤ i → cat (take i xs) ≡ cat xs
-cat-done xs i h = ap cat (take-all i xs h)
 
 -- ── a load ───────────────────────────────────────────────────────────────────────────────────
 
@@ -263,19 +241,6 @@ module _ (n : Net) where
 -- the fields of processes that take their parts of s one after another
 abbrev pub fileOf : List Proc → List ℕ → List ℕ
 fileOf ps s = cat (zipWith outputField ps (zipWith ownIn ps (split (map ownSize ps) s)))
-
-file-cons : (p : Proc) (ps : List Proc) (s : List ℕ) (at : ℕ) → fileOf (p ∷ ps) (drop at s) ≡ outputField p (ownIn p (mid at (ownSize p) s)) ++ fileOf ps (drop (at + ownSize p) s)
-unfolding cat split zipWith
-file-cons p ps s at = ap (λ (l : List ℕ). outputField p (ownIn p (mid at (ownSize p) s)) ++ fileOf ps l) (drop-drop (ownSize p) at s)
-
--- process j of a numbered group
-pub file-from : (h : ℕ → Proc) (n j : ℕ) (s : List ℕ) (at : ℕ) → j < n →
-    fileOf (onFrom h (n - j) j) (drop at s) ≡ outputField (h j) (ownIn (h j) (mid at (ownSize (h j)) s)) ++ fileOf (onFrom h (n - (j + 1)) (j + 1)) (drop (at + ownSize (h j)) s)
-file-from h n j s at l = ap (λ (ps : List Proc). fileOf ps (drop at s)) (on-turn h n j l) ∙ file-cons (h j) (onFrom h (n - (j + 1)) (j + 1)) s at
-
-pub file-end : (h : ℕ → Proc) (n j : ℕ) (s : List ℕ) → n ≤ j → fileOf (onFrom h (n - j) j) s ≡ []
-unfolding cat split zipWith tabulate
-file-end h n j s l = let e : n - j ≡ 0 = omega arith in rw e
 
 pub file-append : (xs ys : List Proc) (s : List ℕ) → fileOf (xs ++ ys) s ≡ fileOf xs s ++ fileOf ys (drop (sum (map ownSize xs)) s)
 unfolding cat split zipWith sum

@@ -1,29 +1,26 @@
 -- The ways out of a rule whose patterns are ready.
 -- Assumes nothing.
-use mathlib.Core.Path.{_≡_, refl, sym, ap, _∙_, subst}
+use mathlib.Core.Path.{_≡_, refl, sym, ap, _∙_}
 use mathlib.Core.Bool.{Bool, true, false, cond}
 use mathlib.Core.List.{List}
-use Prim.Native.Nat.{ℕ, _+_}
+use Prim.Native.Nat.{ℕ}
 use native.Mathlib.Omega.{arith}
-use lib.IntN.{ℤ, pos}
+use lib.IntN.{ℤ}
 use lib.ListN.{drop}
 use Rattle.model.specs.declared.Ty.{Ty}
 use Rattle.model.specs.declared.Outcome.{Outcome}
 use Rattle.model.specs.declared.Outcome.the-variants.{Value, Fault}
 use Rattle.model.specs.Values.{isTrue}
-use Rattle.model.specs.Expressions.{Read, got, expression, Env, valueOf}
+use Rattle.model.specs.Expressions.{Read, expression, Env, valueOf}
 use Rattle.model.specs.Rules.{Rule, Action, ruleRead, readRule}
-use Rattle.model.specs.Cycles.{Mark, attempt, guarded, chosen, fires}
+use Rattle.model.specs.Cycles.{attempt, guarded, chosen, fires}
 use Rattle.types.specs.Scopes.{scopeIn}
 use Rattle.shapes.specs.declared.Arity.{Arity}
-use Rattle.expressions.specs.declared.Form.{Form}
-use Rattle.expressions.specs.declared.Form.the-variants.{Bytes, Malformed}
 use Rattle.rules.specs.declared.Parts.{Parts}
 use Rattle.expressions.specs.Reading.{limitsRead}
-use Rattle.rules.specs.Bodies.{actionsFrom, endAt, limitsOf}
-use Rattle.rules.proofs.Laying.{Found, Laid, ruleIs, rule-read}
+use Rattle.rules.specs.Bodies.{actionsFrom, limitsOf}
+use Rattle.rules.proofs.Laying.{Found, ruleIs, rule-read}
 use Rattle.typing.specs.Fits.{expRead, listRead}
-use Rattle.matching.specs.declared.Outs.{Outs}
 use Rattle.matching.specs.declared.Outs.the-variants.{Open, Shut}
 use Rattle.matching.specs.Outs.{openFrom, outsOf}
 use Rattle.actions.specs.declared.Faults.{Faults}
@@ -35,12 +32,7 @@ use Rattle.actions.proofs.Placed.{held}
 use Rattle.trying.specs.declared.Judgement.{Judgement}
 use Rattle.trying.specs.declared.Judgement.the-variants.{Quiet, Fires, Faulty}
 use Rattle.trying.specs.Views.{judgeOf}
-use Rattle.trying.specs.Working.{Workable, AtGuard, AtActions, judgedAs}
-
--- a thing that was read ends where it ends
-found-end : {A : Type 0} {r : Read A} {at end : ℕ} → Found r at end → (k : ℕ) → k ≡ at → endAt k r ≡ Bytes end
-unfolding endAt
-found-end q k e = rw (e, q .read, q .ends)
+use Rattle.trying.specs.Working.{Workable, judgedAs}
 
 found-open : {r : Read (List Action)} {at end : ℕ} (q : Found r at end) (full : List ℕ) → outsOf full 0 at r ≡ cond (openFrom full 0 (q .thing)) (Open end) Shut
 unfolding outsOf
@@ -70,10 +62,6 @@ module _ (a : Arity) (b : List ℕ) (vals : List ℤ) (types : List ℕ) (w : Wo
 
   sets-is : (at : ℕ) → at ≡ p .sets → listRead (actionsFrom true (a .vars) at b) ≡ ru .sets
   sets-is at e = ap (λ (k : ℕ). listRead (actionsFrom true (a .vars) k b)) e ∙ held (w .laid) .sets
-
-  -- the output actions begin where the guard ends
-  pub guard-end : (at : ℕ) → at ≡ p .guard → endAt at (expression (drop at b)) ≡ Bytes (p .outs)
-  guard-end at e = rw e (found-end (w .laid .guard) (p .guard) refl)
 
   -- what the guard and the actions ask for, from where they begin
   pub guard-ready : (at : ℕ) → at ≡ p .guard → (limitsRead (expression (drop at b)) ≡ true) × (hasType (scopeIn types) (expRead (expression (drop at b))) ≡ true)

@@ -1,28 +1,32 @@
 -- Where each pattern of a rule stands in its body.
 -- Assumes nothing.
-use mathlib.Core.Path.{_≡_, refl, sym, ap, ap₂, _∙_, subst}
+use mathlib.Core.Path.{_≡_, sym, ap, ap₂, _∙_, subst}
 use mathlib.Core.Bool.{Bool, true, false}
 use mathlib.Core.List.{List, [], _∷_, _++_}
 use Prim.Native.Nat.{ℕ, zero, suc, _+_, _-_, _≤_, _<_}
 use native.Mathlib.Nat.{add-zero, zero-add}
 use native.Mathlib.Omega.{arith}
-use native.Mathlib.Decide.{decLt}
 use lib.ListN.{getD, take, drop, length, length-append}
 use lib.Seq.{take-all}
 use Rattle.model.specs.Bytes.{valueAt}
-use Rattle.model.specs.Expressions.{Read, readMany}
-use Rattle.model.specs.Rules.{Pattern, ignore, patternOf, patternSize, readPattern, sizeOfPattern, patternsSize}
-use Rattle.expressions.specs.declared.Form.the-variants.{Bytes}
+use Rattle.model.specs.Expressions.{Read, readMany, expression}
+use Rattle.model.specs.Rules.{Pattern, ignore, patternOf, patternSize, readPattern, sizeOfPattern, patternsSize, Rule, ruleRead, readRule}
 use Rattle.expressions.proofs.Heads.{head-at}
-use Rattle.rules.specs.Bodies.{patternCodes, patternsFrom, endAt}
+use Rattle.rules.specs.Bodies.{patternCodes, patternsFrom, actionsFrom}
 use Rattle.rules.specs.declared.Parts.{Parts}
-use Rattle.rules.proofs.Laying.{Found, Laid, ruleIs}
+use Rattle.rules.proofs.Laying.{Found, Laid, ruleIs, rule-read}
 use Rattle.shapes.specs.declared.Arity.{Arity}
 use Rattle.model.proofs.Decoded.{readMany-length}
-use Rattle.typing.specs.Fits.{isRead, listRead}
-use Rattle.typing.proofs.Peeling.{Peel, Peeled, there}
+use Rattle.expressions.specs.Reading.{endFrom, isRead, skipTo}
+use Rattle.typing.specs.Fits.{listRead}
+use Rattle.typing.proofs.Peeling.{there}
 use Rattle.typing.proofs.Patterns.{pattern-read, pattern-size, pattern-inside, pattern-at}
 use Rattle.typing.proofs.Wholes.{ins-read, vars-read, patterns-size}
+
+-- a thing that was read is there, and ends where it ends
+found-there : {A : Type 0} {r : Read A} {at end : ℕ} → Found r at end → (isRead r ≡ true) × (skipTo at r ≡ end)
+unfolding isRead skipTo
+found-there q = (rw (q .read), rw (q .read, q .ends))
 
 -- pattern x stands at an offset of a body
 pub record StandsAt (b : List ℕ) (at : ℕ) (x : Pattern) : Type 0 where
@@ -35,12 +39,12 @@ module _ (v : Bool) (b : List ℕ) where
   f = readPattern (patternCodes v)
 
   stands : (at end : ℕ) (q : Found (f (drop at b)) at end) → (StandsAt b at (q .thing)) × (end ≡ at + sizeOfPattern (q .thing))
-  unfolding endAt
+  unfolding endFrom
   stands at end q =
       let r = pattern-read (patternCodes v) (drop at b) (q .read) in
       let z = pattern-size v (drop at b) (q .read) in (
         record {
-          inside = pattern-inside v b at (at + q .size) (ap (endAt at) (q .read));
+          inside = pattern-inside v b at (at + q .size) (ap (endFrom at) (q .read));
           is = sym (pattern-at v b at (q .read));
           size = ap patternSize (sym (head-at at b)) ∙ sym (r .size) ∙ sym z;
         },
@@ -112,7 +116,7 @@ module _ (a : Arity) (b : List ℕ) (p : Parts) (x : Laid a b p) where
   unfolding patternsFrom ruleIs
   vars-length = readMany-length (readPattern (patternCodes true)) (a .vars) (drop (p .vars) b) (x .vars .thing) (x .vars .size) (x .vars .read)
 
-  pub all-length : length all ≡ a .ins + a .vars
+  all-length : length all ≡ a .ins + a .vars
   all-length = length-append ((ruleIs x) .ins) ((ruleIs x) .vars) ∙ omega (arith, ins-length, vars-length)
 
   ins-size : patternsSize ((ruleIs x) .ins) ≡ p .vars
@@ -133,5 +137,46 @@ module _ (a : Arity) (b : List ℕ) (p : Parts) (x : Laid a b p) where
       (λ i h. subst (λ (k : ℕ). StandsAt b (k + patternsSize (take i ((ruleIs x) .vars))) (getD ((ruleIs x) .vars) i ignore)) (omega (arith, ins-size)) (rw (x .vars .read) at (stands-at true b (a .vars) (p .vars) i (vars-read a b p x) (omega (arith, h, vars-length)))))
       j (omega (arith, l, all-length)))
 
-  pub guard-stands : (j : ℕ) → a .ins + a .vars ≤ j → patternsSize (take j all) ≡ p .guard
+  guard-stands : (j : ℕ) → a .ins + a .vars ≤ j → patternsSize (take j all) ≡ p .guard
   guard-stands j l = rw (take-all j all (omega (arith, l, all-length))) (size-append ((ruleIs x) .ins) ((ruleIs x) .vars) ∙ rw ins-size vars-size)
+
+-- where a reader of the rule stands before pattern j
+module _ (a : Arity) (b : List ℕ) (p : Parts) (x : Laid a b p) where
+  abbrev ru : Rule
+  ru = ruleRead (readRule (a .ins) (a .outs) (a .vars) b)
+
+  abbrev both : List Pattern
+  both = ru .ins ++ ru .vars
+
+  rule-is : ru ≡ ruleIs x
+  unfolding ruleRead
+  rule-is = rw (rule-read x)
+
+  pub ins-many : length (ru .ins) ≡ a .ins
+  ins-many = ap (λ (q : Rule). length (q .ins)) rule-is ∙ ins-length a b p x
+
+  pub all-many : length both ≡ a .ins + a .vars
+  all-many = ap (λ (q : Rule). length (q .ins ++ q .vars)) rule-is ∙ all-length a b p x
+
+  module _ (j at : ℕ) (h : at ≡ patternsSize (take j both)) where
+    module _ (l : j < a .ins + a .vars) where
+      pub here-stands : StandsAt b at (getD both j ignore)
+      here-stands = subst (λ (k : ℕ). StandsAt b k (getD both j ignore)) (sym h) (rw rule-is (pattern-stands a b p x j l))
+
+      pub here-next : (c size : ℕ) → c ≡ getD b at 0 → size ≡ patternSize c → at + size ≡ patternsSize (take (j + 1) both)
+      here-next c size ec es =
+          let after : suc j ≡ j + 1 = omega arith in
+          ap₂ _+_ h (es ∙ ap patternSize ec ∙ here-stands .size) ∙ sym (size-next both j (omega (arith, all-many, l))) ∙ ap (λ (i : ℕ). patternsSize (take i both)) after
+
+    pub here-guard : a .ins + a .vars ≤ j → at ≡ p .guard
+    here-guard l = h ∙ ap (λ (q : Rule). patternsSize (take j (q .ins ++ q .vars))) rule-is ∙ guard-stands a b p x j l
+
+  -- the guard is there, and the output actions begin where it ends
+  pub guard-there : (at : ℕ) → at ≡ p .guard → isRead (expression (drop at b)) ≡ true
+  guard-there at e = rw e (found-there (x .guard) .0)
+
+  pub guard-end : (at : ℕ) → at ≡ p .guard → skipTo at (expression (drop at b)) ≡ p .outs
+  guard-end at e = rw e (found-there (x .guard) .1)
+
+  pub outs-there : (at : ℕ) → at ≡ p .outs → isRead (actionsFrom false (a .outs) at b) ≡ true
+  outs-there at e = rw e (found-there (x .outs) .0)

@@ -1,9 +1,9 @@
 -- The search for the first rule that is not quiet, and the patterns of one rule.
 -- Assumes nothing.
-use mathlib.Core.Path.{_≡_, refl, sym, ap, ap₂, _∙_, subst}
+use mathlib.Core.Path.{_≡_, refl, sym, ap, ap₂, _∙_}
 use mathlib.Core.Bool.{Bool, true, false, cond, _&&_, _||_}
 use mathlib.Core.List.{List, [], _∷_, _++_}
-use Prim.Native.Nat.{ℕ, zero, suc, _+_, _-_, _≤_, _<_}
+use Prim.Native.Nat.{ℕ, suc, _+_, _-_, _≤_, _<_}
 use native.Mathlib.Nat.{sub-zero}
 use native.Mathlib.Omega.{arith}
 use lib.Dec.{eqb}
@@ -20,17 +20,15 @@ use Rattle.model.specs.Rules.{Pattern, ignore, patternOf, patternSize, patterns
 use Rattle.model.specs.Cycles.{Mark, quiet, fires, faulty, matches, attempt, guarded, chosen, orElse, first, upFrom}
 use Rattle.shapes.specs.declared.Arity.{Arity}
 use Rattle.shapes.specs.Shapes.{typesIn}
-use Rattle.rules.proofs.Laying.{ruleIs, rule-read}
 use Rattle.matching.specs.Outs.{openFrom}
 use Rattle.actions.specs.declared.Faults.{Faults}
 use Rattle.actions.specs.declared.Faults.the-variants as faults
 use Rattle.actions.specs.Acts.{faultsOf, markOr}
 use Rattle.actions.proofs.Worked.{chosen-faults}
-use Rattle.trying.specs.declared.Judgement.{Judgement}
 use Rattle.trying.specs.declared.Judgement.the-variants as judgement
 use Rattle.trying.specs.Views.{tokenOf, readyFrom, viewEnv, judgeOf, tryOn}
 use Rattle.trying.specs.Working.{Ruled, judgedAs}
-use Rattle.trying.proofs.Offsets.{StandsAt, size-next, ins-length, all-length, pattern-stands, guard-stands}
+use Rattle.trying.proofs.Offsets.{StandsAt, ins-many, all-many, here-stands, here-next, here-guard}
 
 -- ── one rule after another ───────────────────────────────────────────────────────────────────
 
@@ -144,20 +142,10 @@ module _ (a : Arity) (ins vars b : List ℕ) (w : Ruled a ins vars b) (heads : L
   abbrev trial : List ℕ → ℕ → Mark
   trial full r = tryOn (typesIn ins (a .ins)) (typesIn vars (a .vars)) heads full vals ru r
 
-  rule-is : ru ≡ ruleIs (w .laid)
-  unfolding ruleRead
-  rule-is = rw (rule-read (w .laid))
-
-  ins-many : length (ru .ins) ≡ a .ins
-  ins-many = ap (λ (q : Rule). length (q .ins)) rule-is ∙ ins-length a b (w .parts) (w .laid)
-
-  all-many : length all ≡ a .ins + a .vars
-  all-many = ap (λ (q : Rule). length (q .ins ++ q .vars)) rule-is ∙ all-length a b (w .parts) (w .laid)
-
   module _ (j at : ℕ) (h : Before f all j at) where
     module _ (l : j < a .ins + a .vars) where
       pub stands-here : StandsAt b at (getD all j ignore)
-      stands-here = subst (λ (k : ℕ). StandsAt b k (getD all j ignore)) (sym (h .here)) (rw rule-is (pattern-stands a b (w .parts) (w .laid) j l))
+      stands-here = here-stands a b (w .parts) (w .laid) j at (h .here) l
 
       after : suc j ≡ j + 1
       after = omega arith
@@ -165,8 +153,8 @@ module _ (a : Arity) (ins vars b : List ℕ) (w : Ruled a ins vars b) (heads : L
       next-is : (t : Bool) → t ≡ matches (patternOf (getD b at 0) (valueAt b (at + 1))) (tokenOf (a .ins) heads vals j) → readyFrom f 0 all ≡ (t && readyFrom f (j + 1) (drop (j + 1) all))
       unfolding readyFrom
       next-is t e =
-          let q : matches (getD all j ignore) (f j) ≡ t = sym (e ∙ ap₂ (λ (x : Pattern) (i : ℕ). matches x (tokenOf i heads vals j)) (stands-here .is) (sym ins-many)) in
-          sym (h .left) ∙ ap (readyFrom f j) (drop-cons all j ignore (omega (arith, all-many)) ∙ ap (λ (i : ℕ). getD all j ignore ∷ drop i all) after) ∙ ap (λ (u : Bool). u && readyFrom f (j + 1) (drop (j + 1) all)) q
+          let q : matches (getD all j ignore) (f j) ≡ t = sym (e ∙ ap₂ (λ (x : Pattern) (i : ℕ). matches x (tokenOf i heads vals j)) (stands-here .is) (sym (ins-many a b (w .parts) (w .laid)))) in
+          sym (h .left) ∙ ap (readyFrom f j) (drop-cons all j ignore (omega (arith, all-many a b (w .parts) (w .laid))) ∙ ap (λ (i : ℕ). getD all j ignore ∷ drop i all) after) ∙ ap (λ (u : Bool). u && readyFrom f (j + 1) (drop (j + 1) all)) q
 
       pub not-ready : (full : List ℕ) (r : ℕ) {t : Bool} → t ≡ matches (patternOf (getD b at 0) (valueAt b (at + 1))) (tokenOf (a .ins) heads vals j) → t ≡ false → trial full r ≡ quiet
       unfolding tryOn attempt
@@ -174,13 +162,13 @@ module _ (a : Arity) (ins vars b : List ℕ) (w : Ruled a ins vars b) (heads : L
 
       pub one-ready : {t : Bool} (c size : ℕ) → t ≡ matches (patternOf (getD b at 0) (valueAt b (at + 1))) (tokenOf (a .ins) heads vals j) → t ≡ true → c ≡ getD b at 0 → size ≡ patternSize c → Before f all (j + 1) (at + size)
       one-ready c size e g ec es = record {
-        here = ap₂ _+_ (h .here) (es ∙ ap patternSize ec ∙ stands-here .size) ∙ sym (size-next all j (omega (arith, all-many))) ∙ ap (λ (i : ℕ). patternsSize (take i all)) after;
+        here = here-next a b (w .parts) (w .laid) j at (h .here) l c size ec es;
         left = sym (next-is true (sym g ∙ e));
       }
 
     module _ (l : a .ins + a .vars ≤ j) where
       pub guard-here : at ≡ w .parts .guard
-      guard-here = h .here ∙ ap (λ (q : Rule). patternsSize (take j (q .ins ++ q .vars))) rule-is ∙ guard-stands a b (w .parts) (w .laid) j l
+      guard-here = here-guard a b (w .parts) (w .laid) j at (h .here) l
 
       abbrev en : Env
       en = viewEnv (typesIn ins (a .ins)) (typesIn vars (a .vars)) vals ru

@@ -1,6 +1,5 @@
 // A box's rules tried in the file's order against what the box sees.
 use actions::Faults;
-use expressions::Form;
 use matching::Outs;
 use model::Outcome;
 use model::ProcessId;
@@ -18,6 +17,7 @@ ghost use Rattle.model.specs.Cycles.{matches, chosen as chosenOf, first, upFrom
 ghost use Rattle.evaluation.specs.Envs.{envIn};
 ghost use Rattle.table.specs.Table.{indexIn};
 ghost use Rattle.shapes.specs.Shapes.{typesIn};
+ghost use Rattle.rules.specs.Bodies.{layoutOf, Parted, outsAt};
 ghost use Rattle.trying.specs.Views.{tokenOf, viewEnv, judgeOf, tryOn, markAs};
 ghost use Rattle.trying.specs.Working.{AtGuard, AtActions, Settled, Rules, Smalls, judgedAs};
 
@@ -90,9 +90,7 @@ fn judge(b: &[u8], at: usize, a: Arity, full: &[u8], vals: &[i64; 8], types: &[u
     requires { ⌜ AtGuard a (now b) at (now vals) (now types) ⌝ }
     ensures { λ r. ⌜ r ≡ judgedAs (judgeOf (envIn (now (vals .entry)) (now (types .entry))) (now (full .entry)) (ruleRead (readRule (a .ins) (a .outs) (a .vars) (now (b .entry)))) 0) ⌝ }
 {
-    let Form::Bytes(outs) = rules::expression_end(b, at) else {
-        return Judgement::Quiet;
-    };
+    let outs = expressions::skip(b, at);
     let Outs::Open { next: sets } = matching::outs_open(b, outs, a.outs, full) else {
         return Judgement::Quiet;
     };
@@ -122,6 +120,22 @@ fn settle(
 {
     let types = typing::scope(b, ins, vars, a);
     judge(b, at, a, full, vals, &types)
+}
+
+// Where the output actions begin in the body of a rule, which has its parts: behind the patterns and the guard.
+pub fn actions_at(b: &[u8], a: Arity) -> usize
+    requires { ⌜ (a .ins ≤ 4) × (a .vars ≤ 4) ⌝ }
+    requires { ⌜ Parted a (now b) ⌝ }
+    ensures { λ r. ⌜ r ≡ outsAt (layoutOf a (now (b .entry))) ⌝ }
+{
+    let mut at: usize = 0;
+    let mut j: usize = 0;
+    while j < a.ins + a.vars {
+        let size = rules::pattern_size(octets::byte_at(b, at));
+        at += size;
+        j += 1;
+    }
+    expressions::skip(b, at)
 }
 
 // A box's rules in the file's order, up to the first that is fireable or that faults. The guard is worked out only after the rest holds.

@@ -14,15 +14,15 @@ use Rattle.model.specs.Expressions.{Exp, Read, bad, got, after, readMany, provi
 use Rattle.model.specs.NetworkFile.{tabulate}
 use Rattle.model.specs.Rules.{Action, nothing, bare, send, bareAction, sentTag, holdsExpression, readAction, Fit, fits, fails, also, fitIf, tagFits, actionFits, sizeOfAction, actionsFit}
 use Rattle.expressions.specs.declared.Form.the-variants.{Bytes, Malformed}
-use Rattle.expressions.specs.Reading.{limitsRead}
+use Rattle.expressions.specs.Reading.{limitsRead, endFrom, isRead}
 use Rattle.expressions.proofs.Heads.{head-at}
 use Rattle.expressions.proofs.Parts.{size-is}
 use Rattle.shapes.specs.Shapes.{typesIn}
-use Rattle.rules.specs.Bodies.{actionCodes, actionsFrom, endAt, sentLimits, limitsOf}
+use Rattle.rules.specs.Bodies.{actionCodes, actionsFrom, sentLimits, limitsOf}
 use Rattle.rules.proofs.Ends.{action-none}
 use Rattle.rules.proofs.Keeping.{keepsRead, keeps-is, limits-step, limits-fail}
 use Rattle.typing.specs.declared.Fitting.the-variants.{Fits, Fails}
-use Rattle.typing.specs.Fits.{fittingOf, isRead, listRead, expRead, actionAt}
+use Rattle.typing.specs.Fits.{fittingOf, listRead, expRead, actionAt}
 use Rattle.typing.proofs.Peeling.{typesFrom, types-all, types-more, Peel, peel}
 use Rattle.typing.proofs.Patterns.{minus-zero}
 
@@ -100,7 +100,7 @@ pub action-read : (known : ℕ → Bool) (s : List ℕ) {x : Action} {n : ℕ} �
 unfolding readAction
 action-read known s e = read-by (holdsExpression (getD s 0 0)) s refl (given (ltb 0 (length s) && known (getD s 0 0)) _ e)
 
-pub action-inside : (v : Bool) (b : List ℕ) (at end : ℕ) → endAt at (readAction (actionCodes v) (drop at b)) ≡ Bytes end → at < length b
+pub action-inside : (v : Bool) (b : List ℕ) (at end : ℕ) → endFrom at (readAction (actionCodes v) (drop at b)) ≡ Bytes end → at < length b
 action-inside v b at end e = go (ltb at (length b)) refl
   where
     go : (t : Bool) → ltb at (length b) ≡ t → at < length b
@@ -115,7 +115,7 @@ limits-read bad e = e
 limits-read (got xs n) e = refl
 
 module _ (v : Bool) (b : List ℕ) where
-  module _ (k at end : ℕ) (h : 0 < k) (l : limitsOf (actionsFrom v k at b) ≡ true) (g : endAt at (readAction (actionCodes v) (drop at b)) ≡ Bytes end) where
+  module _ (k at end : ℕ) (h : 0 < k) (l : limitsOf (actionsFrom v k at b) ≡ true) (g : endFrom at (readAction (actionCodes v) (drop at b)) ≡ Bytes end) where
     first-go : (t : Bool) → keepsRead (readAction (actionCodes v) (drop at b)) ≡ t → (sentLimits (drop at b) ≡ true) × (limitsOf (actionsFrom v (k - 1) end b) ≡ true)
     unfolding actionsFrom
     first-go true e = (sym (keeps-is (actionCodes v) (drop at b) at end g) ∙ e, sym (limits-step (readAction (actionCodes v)) b k at end h g e) ∙ l)
@@ -147,7 +147,7 @@ module _ (v : Bool) (b : List ℕ) where
         let g : at + sizeOfAction (x .first .thing) ≡ end = ap (λ (j : ℕ). at + j) (w .1) ∙ sym (x .first .ends) in
         rw (x .list, types-more types k n h) (rw (g, w .0, q))
 
-    module _ (k at end : ℕ) (t : Ty) (h : k < n) (l : limitsOf (actionsFrom v (n - k) at b) ≡ true) (g : endAt at (readAction (actionCodes v) (drop at b)) ≡ Bytes end) (q : t ≡ typeAt types (2 * k)) where
+    module _ (k at end : ℕ) (t : Ty) (h : k < n) (l : limitsOf (actionsFrom v (n - k) at b) ≡ true) (g : endFrom at (readAction (actionCodes v) (drop at b)) ≡ Bytes end) (q : t ≡ typeAt types (2 * k)) where
       acts-one : leftActs k at ≡ also (actionFits sc at t (actionAt (drop at b))) (leftActs (k + 1) end)
       unfolding actionsFrom
       acts-one = acts-peeled k at end h (peel (readAction (actionCodes v)) b (n - k) at end (omega arith) (limits-read (readMany (readAction (actionCodes v)) (n - k) (drop at b)) l) g) ∙ rw q

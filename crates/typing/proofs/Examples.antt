@@ -5,7 +5,8 @@ use mathlib.Core.Path.{_≡_, refl}
 use mathlib.Core.List.{List, [], _∷_, _++_}
 use Rattle.model.specs.Opened.{opened}
 use Rattle.model.specs.Rules.{Shape}
-use Rattle.rules.specs.Bodies.{patternCodes, actionCodes, endAt, partEnd, stopOr, readFrom, readTo}
+use Rattle.expressions.specs.Reading.{endFrom}
+use Rattle.rules.specs.Bodies.{patternCodes, actionCodes, partEnd, stopOr, readFrom, readTo}
 use Rattle.typing.specs.declared.RuleFault.the-variants.{Sound, Faulty}
 use Rattle.typing.specs.Limits.{actionKeeps, actionsKeep, ruleKeeps}
 use Rattle.typing.specs.RuleFault.{arityOf, formFits, firstOf, ruleFault}
@@ -31,5 +32,5 @@ pub faults : (
     ∷ ruleFault (box 9) 0 (body 1 1 8)
     ∷ []
     ) ≡ Sound ∷ Faulty 1 19 ∷ Faulty 1 8 ∷ Faulty 2 0 ∷ Faulty 2 9 ∷ Faulty 4 10 ∷ Faulty 4 9 ∷ Faulty 4 8 ∷ []
-unfolding box body opened ruleFault formFits firstOf arityOf ruleKeeps actionsKeep actionKeeps readTo readFrom stopOr partEnd endAt patternCodes actionCodes
+unfolding box body opened ruleFault formFits firstOf arityOf ruleKeeps actionsKeep actionKeeps readTo readFrom stopOr partEnd endFrom patternCodes actionCodes
 faults = refl

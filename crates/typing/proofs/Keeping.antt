@@ -12,15 +12,15 @@ use Rattle.model.specs.Expressions.{readMany, expression, expressionLimits}
 use Rattle.model.specs.Rules.{Action, nothing, bare, send, readAction, readRule, ruleRead, Rule, actionLimits, sizeOfAction, Fit, fits, fails, also, fitIf, isFit}
 use Rattle.model.specs.NetworkFile.{ruleLimits}
 use Rattle.expressions.specs.declared.Form.the-variants.{Bytes}
-use Rattle.expressions.specs.Reading.{limitsRead}
+use Rattle.expressions.specs.Reading.{limitsRead, endFrom, isRead}
 use Rattle.shapes.specs.declared.Arity.{Arity}
 use Rattle.rules.specs.declared.Parts.{Parts}
 use Rattle.rules.specs.declared.Layout.the-variants as layout
-use Rattle.rules.specs.Bodies.{actionCodes, actionsFrom, endAt, sentLimits, layoutOf}
+use Rattle.rules.specs.Bodies.{actionCodes, actionsFrom, sentLimits, layoutOf}
 use Rattle.rules.proofs.Keeping.{keeps, keeps-more, keepsRead, keeps-is}
 use Rattle.rules.proofs.Laying.{Laid, laid, ruleIs, rule-read}
 use Rattle.typing.specs.declared.Fitting.the-variants.{Fits, Fails}
-use Rattle.typing.specs.Fits.{fittingOf, isRead, listRead}
+use Rattle.typing.specs.Fits.{fittingOf, listRead}
 use Rattle.typing.specs.Limits.{actionKeeps, actionsKeep, ruleKeeps}
 use Rattle.typing.proofs.Peeling.{Peel, peel}
 use Rattle.typing.proofs.Actions.{action-read}
@@ -43,7 +43,7 @@ module _ (v : Bool) (b : List ℕ) where
   unfolding actionsKeep actionsFrom readMany listRead
   keep-none k at h = let q : k ≡ 0 = omega arith in rw q
 
-  module _ (k at end : ℕ) (h : 0 < k) (r : isRead (actionsFrom v k at b) ≡ true) (g : endAt at (readAction (actionCodes v) (drop at b)) ≡ Bytes end) where
+  module _ (k at end : ℕ) (h : 0 < k) (r : isRead (actionsFrom v k at b) ≡ true) (g : endFrom at (readAction (actionCodes v) (drop at b)) ≡ Bytes end) where
     peeled : Peel (readAction (actionCodes v)) b k at end
     unfolding actionsFrom
     peeled = peel (readAction (actionCodes v)) b k at end h r g

@@ -16,14 +16,15 @@ use Rattle.model.specs.Expressions.{Read, got, readMany, provided, typeAt}
 use Rattle.model.specs.NetworkFile.{tabulate}
 use Rattle.model.specs.Rules.{Pattern, any, only, patternOf, patternSize, inputCode, variableCode, readPattern, Fit, fits, also, fitIf, tagFits, patternFits, sizeOfPattern, patternsFit, matchedType, matchedTypes}
 use Rattle.model.proofs.Tests.{and-left, and-right}
+use Rattle.expressions.specs.Reading.{endFrom, isRead}
 use Rattle.expressions.specs.declared.Form.the-variants.{Bytes, Malformed}
 use Rattle.expressions.proofs.Heads.{head-at}
 use Rattle.octets.proofs.Laws.{value-drop}
 use Rattle.shapes.specs.Shapes.{typesIn}
 use Rattle.types.specs.Scopes.{scopeIn}
-use Rattle.rules.specs.Bodies.{patternCodes, patternsFrom, endAt}
+use Rattle.rules.specs.Bodies.{patternCodes, patternsFrom}
 use Rattle.rules.proofs.Ends.{pattern-none}
-use Rattle.typing.specs.Fits.{fittingOf, isRead, listRead, tagOf, scopeRead, Precise, Agree}
+use Rattle.typing.specs.Fits.{fittingOf, listRead, tagOf, scopeRead, Precise, Agree}
 use Rattle.typing.specs.declared.Fitting.the-variants.{Fails}
 use Rattle.typing.proofs.Peeling.{typesFrom, types-all, types-more, Peel, peel, there}
 
@@ -136,7 +137,7 @@ pattern-size v s e =
     let r = pattern-read (patternCodes v) s e in
     ap sizeOfPattern (r .pattern) ∙ size-known v (getD s 0 0) (valueAt s 1) (r .code) ∙ sym (r .size)
 
-pub pattern-inside : (v : Bool) (b : List ℕ) (at end : ℕ) → endAt at (readPattern (patternCodes v) (drop at b)) ≡ Bytes end → at < length b
+pub pattern-inside : (v : Bool) (b : List ℕ) (at end : ℕ) → endFrom at (readPattern (patternCodes v) (drop at b)) ≡ Bytes end → at < length b
 pattern-inside v b at end e = go (ltb at (length b)) refl
   where
     go : (t : Bool) → ltb at (length b) ≡ t → at < length b
@@ -162,11 +163,11 @@ module _ (v : Bool) (b : List ℕ) where
         let g : at + sizeOfPattern (x .first .thing) ≡ end = ap (λ (j : ℕ). at + j) (pattern-size v (drop at b) (x .first .read)) ∙ sym (x .first .ends) in
         rw (x .list, types-more types k n h) (rw (g, pattern-at at (x .first .read), q))
 
-    pub fit-step : (k at end : ℕ) (t : Bool) → k < n → isRead (patternsFrom v (n - k) at b) ≡ true → endAt at (readPattern (patternCodes v) (drop at b)) ≡ Bytes end → t ≡ patternFits (typeAt types (2 * k)) (patternOf (getD b at 0) (valueAt b (at + 1))) → leftFit k at ≡ also (fitIf t at) (leftFit (k + 1) end)
+    pub fit-step : (k at end : ℕ) (t : Bool) → k < n → isRead (patternsFrom v (n - k) at b) ≡ true → endFrom at (readPattern (patternCodes v) (drop at b)) ≡ Bytes end → t ≡ patternFits (typeAt types (2 * k)) (patternOf (getD b at 0) (valueAt b (at + 1))) → leftFit k at ≡ also (fitIf t at) (leftFit (k + 1) end)
     unfolding patternsFrom
     fit-step k at end t h e g r = fit-peeled k at end h (peel (readPattern (patternCodes v)) b (n - k) at end (omega arith) e g) ∙ ap (λ (u : Bool). also (fitIf u at) (leftFit (k + 1) end)) (sym r)
 
-    pub read-step : (k at end : ℕ) → k < n → isRead (patternsFrom v (n - k) at b) ≡ true → endAt at (readPattern (patternCodes v) (drop at b)) ≡ Bytes end → isRead (patternsFrom v (n - (k + 1)) end b) ≡ true
+    pub read-step : (k at end : ℕ) → k < n → isRead (patternsFrom v (n - k) at b) ≡ true → endFrom at (readPattern (patternCodes v) (drop at b)) ≡ Bytes end → isRead (patternsFrom v (n - (k + 1)) end b) ≡ true
     unfolding patternsFrom
     read-step k at end h e g =
         let q : n - k - 1 ≡ n - (k + 1) = omega arith in
@@ -195,7 +196,7 @@ module _ (v : Bool) (b types : List ℕ) (n : ℕ) where
   pub fit-start : (from : ℕ) → leftFit v b types n 0 from ≡ allFit from
   fit-start from = rw (minus-zero n, types-all types n)
 
-  module _ (k at end : ℕ) (t : Ty) (r : Bool) (h : k < n) (e : isRead (patternsFrom v (n - k) at b) ≡ true) (g : endAt at (readPattern (patternCodes v) (drop at b)) ≡ Bytes end) (q : t ≡ typeAt types (2 * k)) (f : r ≡ patternFits t (patternOf (getD b at 0) (valueAt b (at + 1)))) where
+  module _ (k at end : ℕ) (t : Ty) (r : Bool) (h : k < n) (e : isRead (patternsFrom v (n - k) at b) ≡ true) (g : endFrom at (readPattern (patternCodes v) (drop at b)) ≡ Bytes end) (q : t ≡ typeAt types (2 * k)) (f : r ≡ patternFits t (patternOf (getD b at 0) (valueAt b (at + 1)))) where
     fit-one : leftFit v b types n k at ≡ also (fitIf r at) (leftFit v b types n (k + 1) end)
     fit-one = fit-step v b types n k at end r h e g (f ∙ ap (λ (u : Ty). patternFits u (patternOf (getD b at 0) (valueAt b (at + 1)))) q)
 
@@ -230,7 +231,7 @@ module _ (b ins : List ℕ) (n : ℕ) where
       let q : n - j - 1 ≡ n - (j + 1) = omega arith in
       rw (x .list, types-more ins j n h) (rw (pattern-at false b at (x .first .read), q))
 
-  pub matched-step : (j k at end : ℕ) → j < n → j < k → isRead (patternsFrom false (n - j) at b) ≡ true → endAt at (readPattern (patternCodes false) (drop at b)) ≡ Bytes end → getD (leftMatched j at) (k - j) noType ≡ getD (leftMatched (j + 1) end) (k - (j + 1)) noType
+  pub matched-step : (j k at end : ℕ) → j < n → j < k → isRead (patternsFrom false (n - j) at b) ≡ true → endFrom at (readPattern (patternCodes false) (drop at b)) ≡ Bytes end → getD (leftMatched j at) (k - j) noType ≡ getD (leftMatched (j + 1) end) (k - (j + 1)) noType
   unfolding patternsFrom
   matched-step j k at end h g e r =
       let q : k - j ≡ suc (k - (j + 1)) = omega arith in

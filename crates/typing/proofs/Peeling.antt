@@ -10,13 +10,13 @@ use lib.Seq.{drop-drop}
 use Rattle.model.specs.declared.Ty.{Ty}
 use Rattle.model.specs.Expressions.{Read, bad, got, after, readMany, typeAt}
 use Rattle.model.specs.NetworkFile.{tabulate}
+use Rattle.expressions.specs.Reading.{endFrom, isRead}
 use Rattle.expressions.specs.declared.Form.the-variants.{Bytes, Malformed}
 use Rattle.shapes.specs.Shapes.{typesIn}
 use Rattle.shapes.proofs.Laws.{tabulate-same}
-use Rattle.rules.specs.Bodies.{endAt}
 use Rattle.rules.proofs.Ends.{end-bad}
 use Rattle.rules.proofs.Laying.{Found, found}
-use Rattle.typing.specs.Fits.{isRead, listRead}
+use Rattle.typing.specs.Fits.{listRead}
 
 -- m types of a table from k on
 unfoldable pub typesFrom : List ℕ → ℕ → ℕ → List Ty
@@ -46,8 +46,8 @@ pub record Peeled {A : Type 0} (f : List ℕ → Read A) (b : List ℕ) (k at : 
   pub end : ℕ
   pub peeled : Peel f b k at end
 
-pub never : {A : Type 0} (at : ℕ) (r : Read A) → isRead r ≡ true → endAt at r ≡ Malformed → ⊥
-unfolding isRead endAt
+pub never : {A : Type 0} (at : ℕ) (r : Read A) → isRead r ≡ true → endFrom at r ≡ Malformed → ⊥
+unfolding isRead endFrom
 never at bad e g = let z : _≡_ {A = ℕ} 0 1 = cc in omega arith
 never at (got x n) e g = let z : _≡_ {A = ℕ} 0 1 = cc in omega arith
 
@@ -77,7 +77,7 @@ module _ {A : Type 0} (f : List ℕ → Read A) (b : List ℕ) where
         list = ap listRead (many-is k at end x) ∙ rest-list (x .thing) (x .size) r g ∙ ap (λ (j : ℕ). x .thing ∷ listRead (readMany f j (drop end b))) q;
       }
 
-  pub peel : (k at end : ℕ) → 0 < k → isRead (readMany f k (drop at b)) ≡ true → endAt at (f (drop at b)) ≡ Bytes end → Peel f b k at end
+  pub peel : (k at end : ℕ) → 0 < k → isRead (readMany f k (drop at b)) ≡ true → endFrom at (f (drop at b)) ≡ Bytes end → Peel f b k at end
   peel zero at end l e g = absurd (omega arith)
   peel (suc k) at end l e g = peel-suc k at end e (found (f (drop at b)) at end g)
 
@@ -86,9 +86,13 @@ module _ {A : Type 0} (f : List ℕ → Read A) (b : List ℕ) where
   there-go k at bad q e = let z : _≡_ {A = Bool} false true = rw q at e in let w : _≡_ {A = ℕ} 0 1 = cc in absurd (omega arith)
   there-go k at (got x n) q e = record { end = at + n; peeled = peel-suc k at (at + n) e (record { thing = x; size = n; read = q; ends = refl }) }
 
-  pub not-bad : (k at : ℕ) → 0 < k → isRead (readMany f k (drop at b)) ≡ true → endAt at (f (drop at b)) ≡ Malformed → ⊥
+  pub not-bad : (k at : ℕ) → 0 < k → isRead (readMany f k (drop at b)) ≡ true → endFrom at (f (drop at b)) ≡ Malformed → ⊥
   not-bad k at l e g = never at (readMany f k (drop at b)) e (end-bad f b k at l g)
 
   pub there : (k at : ℕ) → 0 < k → isRead (readMany f k (drop at b)) ≡ true → Peeled f b k at
   there zero at l e = absurd (omega arith)
   there (suc k) at l e = there-go k at (f (drop at b)) refl e
+
+  pub first-read : (k at : ℕ) → 0 < k → isRead (readMany f k (drop at b)) ≡ true → isRead (f (drop at b)) ≡ true
+  unfolding isRead
+  first-read k at l e = rw (there k at l e .peeled .first .read)

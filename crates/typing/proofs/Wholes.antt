@@ -9,6 +9,7 @@ use lib.ListN.{drop}
 use Rattle.model.specs.declared.Ty.{Ty}
 use Rattle.model.specs.Expressions.{Read, bad, got, after, readMany, expression, sizeOf, Scope}
 use Rattle.model.specs.Rules.{Pattern, Action, nothing, bare, send, readPattern, readAction, readRule, ruleRead, sizeOfPattern, patternsSize, sizeOfAction, actionsSize, Fit, fits, fails, also, patternsFit, actionFits, actionsFit, scopeOf, ruleFits}
+use Rattle.expressions.specs.Reading.{isRead}
 use Rattle.expressions.proofs.Depths.{All}
 use Rattle.expressions.proofs.Parts.{size-is}
 use Rattle.shapes.specs.declared.Arity.{Arity}
@@ -17,7 +18,7 @@ use Rattle.rules.specs.declared.Parts.{Parts}
 use Rattle.rules.specs.Bodies.{patternCodes, actionCodes, patternsFrom, actionsFrom}
 use Rattle.rules.proofs.Laying.{Laid, ruleIs, rule-read}
 use Rattle.typing.specs.declared.Fitting.the-variants.{Fits, Fails}
-use Rattle.typing.specs.Fits.{fittingOf, isRead, listRead, expRead, scopeRead, expressionsFit, Agree}
+use Rattle.typing.specs.Fits.{fittingOf, listRead, expRead, scopeRead, expressionsFit, Agree}
 use Rattle.typing.proofs.Patterns.{pattern-size}
 use Rattle.typing.proofs.Scoping.{type-same}
 use Rattle.typing.proofs.Actions.{action-read}

@@ -2,7 +2,7 @@
 -- Assumes nothing.
 use Prim.Native.Nat.{ℕ, _-_, _*_, _<_}
 use mathlib.Core.Path.{_≡_}
-use mathlib.Core.Bool.{Bool, true, false, cond}
+use mathlib.Core.Bool.{true, false, cond}
 use mathlib.Core.List.{List, []}
 use lib.Dec.{leb}
 use lib.ListN.{getD, drop}
@@ -21,10 +21,6 @@ use Rattle.typing.specs.declared.Fitting.the-variants.{Fits, Fails}
 unfoldable pub fittingOf : Fit → Fitting  -- as the code says it
 fittingOf fits = Fits
 fittingOf (fails k) = Fails k
-
-unfoldable pub isRead : {A : Type 0} → Read A → Bool  -- it is there
-isRead bad = false
-isRead (got a n) = true
 
 unfoldable pub listRead : {A : Type 0} → Read (List A) → List A  -- what was read
 listRead bad = []

@@ -13,11 +13,11 @@ ghost use Rattle.model.specs.Bytes.{valueAt};
 ghost use Rattle.model.specs.Values.{noType};
 ghost use Rattle.model.specs.Expressions.{typeAt, expression, typeOf};
 ghost use Rattle.model.specs.Rules.{patternOf, patternFits, patternsFit, matchedTypes, fitIf, guardFits, actionFits, actionsFit, send, ruleFits, ruleRead, readRule};
-ghost use Rattle.expressions.specs.Reading.{limitsRead};
+ghost use Rattle.expressions.specs.Reading.{limitsRead, isRead};
 ghost use Rattle.types.specs.Scopes.{scopeIn};
 ghost use Rattle.shapes.specs.Shapes.{typesIn, shapeIn};
 ghost use Rattle.rules.specs.Bodies.{patternsFrom, actionsFrom, sentLimits, limitsOf, layoutOf};
-ghost use Rattle.typing.specs.Fits.{fittingOf, isRead, listRead, expRead, actionAt, tagOf, scopeRead, expressionsFit, Precise, Agree, Kept};
+ghost use Rattle.typing.specs.Fits.{fittingOf, listRead, expRead, actionAt, tagOf, scopeRead, expressionsFit, Precise, Agree, Kept};
 ghost use Rattle.typing.specs.Limits.{actionsKeep, ruleKeeps};
 ghost use Rattle.typing.specs.RuleFault.{ruleFault};
 
@@ -116,10 +116,7 @@ fn matched_type(b: &[u8], n: usize, ins: &[u8], k: usize) -> Ty
     let mut at = 0;
     let mut j = 0;
     while j < k {
-        let Form::Bytes(end) = rules::pattern_end(b, at, false) else {
-            return Ty { kind: 255, p: 0 };
-        };
-        at = end;
+        at = rules::skip_pattern(b, at);
         j += 1;
     }
     let c = octets::byte_at(b, at);

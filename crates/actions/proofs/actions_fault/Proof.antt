@@ -22,46 +22,37 @@ loop-holds c =
     let z = sym (minus-zero (a .n)) in
     (omega arith, (subst (λ (j : ℕ). Ready (scopeIn (a .types .now)) (a .var) (a .b .now) j (a .from)) z (record { limits = s .pre .1 .0; typed = s .pre .1 .1 .0 }), ap (λ (j : ℕ). faultsFrom (envIn (a .vals .now) (a .types .now)) (a .var) (a .b .now) j (a .from)) (sym z)))
 
-action-end-requires : tie.Need-action-end-requires Inv-loop μ-loop
-action-end-requires c κs = search needs
+skip-action-requires : tie.Need-skip-action-requires Inv-loop μ-loop
+skip-action-requires c κs =
+    let a = c .before .before .before .args in
+    let i = c .before .loop in
+    ready-there (scopeIn (a .types .now)) (a .var) (a .b .now) (a .n - i .k) (i .at) (omega arith) (i .inv .1 .0)
 
-enum-known-end : tie.Need-enum-known-end Inv-loop μ-loop
-enum-known-end c = search needs
+-- the action of this turn
+first : (c : tie.After-skip-action Inv-loop μ-loop) →
+    let a = c .before .before .before .before .args in
+    let i = c .before .before .loop in
+    First (scopeIn (a .types .now)) (a .var) (a .b .now) (a .n - i .k) (i .at) (c .skip-action .result)
+first c =
+    let a = c .before .before .before .before .args in
+    let i = c .before .before .loop in
+    ready-first (scopeIn (a .types .now)) (a .var) (a .b .now) (a .n - i .k) (i .at) (omega arith) (i .inv .1 .0) _ (c .skip-action .ensures)
+
+action-fault-requires : tie.Need-action-fault-requires Inv-loop μ-loop
+action-fault-requires c κs = let f = first c in (f .inside, (f .limits, (f .typed, c .before .before .before .before .pre .1 .1 .1)))
 
 enum-told : tie.Need-enum-told Inv-loop μ-loop
 enum-told c = search needs
 
-returns : tie.Need-returns Inv-loop μ-loop
-returns c =
-    let a = c .before .before .before .before .before .before .args in
-    let i = c .before .before .before .before .loop in
-    absurd (ready-there (scopeIn (a .types .now)) (a .var) (a .b .now) (a .n - i .k) (i .at) (omega arith) (i .inv .1 .0) (sym (c .before .before .action-end .ensures) ∙ c .enum-told .given .1))
-
--- the action of this turn
-first : (c : tie.After-known-told Inv-loop μ-loop) →
-    let a = c .before .before .before .before .before .before .before .args in
-    let i = c .before .before .before .before .before .loop in
-    First (scopeIn (a .types .now)) (a .var) (a .b .now) (a .n - i .k) (i .at) (c .before .end .given .0 .0)
-first c =
-    let a = c .before .before .before .before .before .before .before .args in
-    let i = c .before .before .before .before .before .loop in
-    ready-first (scopeIn (a .types .now)) (a .var) (a .b .now) (a .n - i .k) (i .at) (omega arith) (i .inv .1 .0) _ (sym (c .before .before .before .action-end .ensures) ∙ c .before .end .given .1)
-
-action-fault-requires : tie.Need-action-fault-requires Inv-loop μ-loop
-action-fault-requires c κs = let f = first c in (f .inside, (f .limits, (f .typed, c .before .before .before .before .before .before .before .pre .1 .1 .1)))
-
 enum-told-2 : tie.Need-enum-told-2 Inv-loop μ-loop
 enum-told-2 c = search needs
 
-enum-told-3 : tie.Need-enum-told-3 Inv-loop μ-loop
-enum-told-3 c = search needs
-
-returns-2 : tie.Need-returns-2 Inv-loop μ-loop
-returns-2 c =
-    let a = c .before .before .before .before .before .before .before .before .before .before .args in
-    let i = c .before .before .before .before .before .before .before .before .loop in
-    let e = sym (c .enum-told3 .given .1) ∙ c .before .before .action-fault .ensures in
-    c .enum-told3 .given .1 ∙ faults-here (envIn (a .vals .now) (a .types .now)) (a .var) (a .b .now) (scopeIn (a .types .now)) (a .n - i .k) (i .at) _ (first (c .before .before .before)) (i .inv .1 .1) _ e
+returns : tie.Need-returns Inv-loop μ-loop
+returns c =
+    let a = c .before .before .before .before .before .before .before .args in
+    let i = c .before .before .before .before .before .loop in
+    let e = sym (c .enum-told2 .given .1) ∙ c .before .before .action-fault .ensures in
+    c .enum-told2 .given .1 ∙ faults-here (envIn (a .vals .now) (a .types .now)) (a .var) (a .b .now) (scopeIn (a .types .now)) (a .n - i .k) (i .at) _ (first (c .before .before .before)) (i .inv .1 .1) _ e
 
 add-k : tie.Need-add-k Inv-loop μ-loop
 add-k c = search needs
@@ -71,19 +62,19 @@ loop-less c = search needs
 
 loop-again : tie.Need-loop-again Inv-loop μ-loop
 loop-again c =
-    let a = c .before .before .before .before .before .before .before .before .before .before .args in
-    let i = c .before .before .before .before .before .before .before .before .loop in
+    let a = c .before .before .before .before .before .before .before .args in
+    let i = c .before .before .before .before .before .loop in
     let q : a .n - i .k - 1 ≡ a .n - (i .k + 1) = omega arith in
     let f = first (c .before .before .before) in
-    let e = sym (c .enum-told2 .given .1) ∙ c .before .before .action-fault .ensures in
+    let e = sym (c .enum-told .given .1) ∙ c .before .before .action-fault .ensures in
     let g = faults-on (envIn (a .vals .now) (a .types .now)) (a .var) (a .b .now) (scopeIn (a .types .now)) (a .n - i .k) (i .at) _ f (i .inv .1 .1) e in
     (omega arith, (rw q at (f .rest), rw q at g))
 
-returns-3 : tie.Need-returns-3 Inv-loop μ-loop
-returns-3 c =
+returns-2 : tie.Need-returns-2 Inv-loop μ-loop
+returns-2 c =
     let a = c .before .before .before .args in
     let i = c .before .loop in
     sym (faults-end (envIn (a .vals .now) (a .types .now)) (a .var) (a .b .now) (a .n - i .k) (i .at) (omega arith)) ∙ i .inv .1 .1
 
 pub actions-fault-spec : {M : Type 1} → statement M
-actions-fault-spec = tie.close (tie.spec Inv-loop μ-loop loop-holds action-end-requires enum-known-end enum-told returns action-fault-requires enum-told-2 enum-told-3 returns-2 add-k loop-less loop-again returns-3)
+actions-fault-spec = tie.close (tie.spec Inv-loop μ-loop loop-holds skip-action-requires action-fault-requires enum-told enum-told-2 returns add-k loop-less loop-again returns-2)

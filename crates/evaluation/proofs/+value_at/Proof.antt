@@ -7,7 +7,7 @@ use borrow.Author.Needs.{needs}
 use Rattle.expressions.proofs.Reading.{head-pos}
 use Rattle.expressions.proofs.Turns.{Call, deep, whole, no-operands, head-inside, begin, two-up, three-is}
 use Rattle.evaluation.specs.declared.Evaluated.the-variants as evaluated
-use Rattle.evaluation.proofs.Valuing.{Work, Operand, operand, asked, ends-inside, small, First, first, exit-first, exit-one, Chosen, chosen, exit-second, exit-two, exit-if, answerAt, cast-precise, stored}
+use Rattle.evaluation.proofs.Valuing.{Work, Operand, operand, asked, is-there, small, First, first, exit-first, exit-one, Chosen, chosen, exit-second, exit-two, exit-if, if-more, answerAt, cast-precise, stored}
 use borrow.Fn.Kinds.{In}
 use borrow.Fn.PlainCycle.{Measures, is, falls, and}
 use Rattle.evaluation.proofs.value_at.Reads as value-at
@@ -189,7 +189,7 @@ module _ (t : ℕ) where
       c .one-value .ensures ∙ sym (exit-one g (c .before .before .if2 .taken) (c .before .type-at .ensures) (stored (g .small)))
 
   value-at-second-from-requires : lts.Need-second-from-requires (Cs t) (value-at-at t) value-at.Post
-  value-at-second-from-requires c κs = worked-1 (c .before) .reached .inside
+  value-at-second-from-requires c κs = is-there (operand (work (opened (c .before))) (worked-1 (c .before) .reached) (two-left c))
 
   value-at-sub-value-at-2 : lts.Need-sub-value-at-2 (Cs t) (value-at-at t) value-at.Post
   value-at-sub-value-at-2 c = deep (call (opened (c .before .before)))
@@ -223,7 +223,9 @@ module _ (t : ℕ) where
       c .two-value .ensures ∙ sym (exit-two g a (c .before .if3 .taken) (stored (worked-1 (told o) .small)) (stored (small (g .it) a)))
 
   value-at-if-end-requires : lts.Need-if-end-requires (Cs t) (value-at-at t) value-at.Post
-  value-at-if-end-requires c κs = ends-inside (second-at (turned (c .before)) .it) (worked-2 (c .before))
+  value-at-if-end-requires c κs =
+      let o = c .before in
+      if-more (second-at (turned o)) (worked-2 o) (three c) (stored (worked-1 (told o) .small))
 
   value-at-returns-6 : lts.Need-returns-6 (Cs t) (value-at-at t) value-at.Post
   value-at-returns-6 c =

@@ -90,7 +90,7 @@ module _ (t : ℕ) where
   inside : (c : Sized) → start (fitted c) .args .at + c .head-size .result ≤ length (start (fitted c) .args .s .now)
   inside c =
       let s = start (fitted c) in
-      omega (arith, c .head-size .ensures .0, fits-whole (s .args .s .now) (s .args .at) _ (c .before .byte-at .ensures) (fits (fitted c)) (s .pre .1))
+      omega (arith, c .head-size .ensures .0, fits-whole (s .args .s .now) (s .args .at) _ (c .before .byte-at .ensures) (fits (fitted c)))
 
   -- ── the needs ──────────────────────────────────────────────────────────────────────────────
 
@@ -109,7 +109,7 @@ module _ (t : ℕ) where
   precise-head-requires c κs =
       let a = start c .args in
       let h = getD (a .s .now) (a .at) 0 in
-      omega (arith, fits-whole (a .s .now) (a .at) h refl (fits c) (start c .pre .1), head-pos h)
+      omega (arith, fits-whole (a .s .now) (a .at) h refl (fits c), head-pos h)
 
   returns-3 : lts.Need-returns-3 (Cs t) (limits-at-at t) limits-at.Post Inv μ
   returns-3 c =

@@ -37,7 +37,7 @@ advance : (c : tie.After-operands Inv-loop μ-loop) → let e = c .before .befor
 advance c =
     let e = c .before .before .before in
     let i = e .before .before .before .loop in
-    rw (c .before .head-size .ensures .0) (fits-whole (bytes (e .before .before)) (i .at) _ (c .before .before .byte-at .ensures) (fitting e) (i .inv .0))
+    rw (c .before .head-size .ensures .0) (fits-whole (bytes (e .before .before)) (i .at) _ (c .before .before .byte-at .ensures) (fitting e))
 
 moves : (c : tie.After-operands Inv-loop μ-loop) → 1 ≤ c .before .head-size .result
 moves c = rw (c .before .head-size .ensures .0) (head-pos (c .before .before .byte-at .result))

@@ -1,11 +1,11 @@
-use mathlib.Core.Path.{_≡_, sym, _∙_}
+use mathlib.Core.Path.{_≡_}
 use native.Mathlib.Omega.{arith}
 use borrow.Author.Needs.{needs}
 use Rattle.model.specs.NetworkFile.{bodyAt, ruleAt}
 use Rattle.table.specs.Table.{indexIn}
 use Rattle.typing.proofs.Wholes.{ins-read}
 use Rattle.marking.proofs.Boxes.{box-ready}
-use Rattle.firing.proofs.Deeds.{ready, is-whole, works, fired-as}
+use Rattle.firing.proofs.Deeds.{ready, whole-parts, works, fired-as}
 use Rattle.firing.proofs.fire_box.Statement.{statement}
 use Rattle.firing.proofs.fire_box.Tie as tie
 
@@ -39,23 +39,13 @@ rule-body-requires c κs =
     let q = c .before .before .before .before .before .before .before .before .before .before .before .before .before .pre in
     (q .0 .tabled, (q .1 .known, q .1 .there))
 
-parts-of-requires : tie.Need-parts-of-requires
-parts-of-requires c κs = search needs
-
-enum-known-parts : tie.Need-enum-known-parts
-enum-known-parts c = search needs
-
-enum-told : tie.Need-enum-told
-enum-told c = search needs
-
-returns : tie.Need-returns
-returns c =
-    let laid = c .before .before in
-    let body = laid .before in
-    let shape = body .before .before .before .before in
+actions-at-requires : tie.Need-actions-at-requires
+actions-at-requires c κs =
+    let shape = c .before .before .before .before in
     let entry = shape .before .before .before .before in
     let q = entry .before .before .before .before .before .before .pre in
-    absurd (is-whole _ _ _ _ _ _ (q .0) _ (q .1 .known) _ (entry .box-at .ensures .0) _ _ _ _ (shape .shape-of .ensures) _ (q .1 .there) _ (body-is body) (sym (c .enum-told .given .1) ∙ laid .parts-of .ensures))
+    let w = ready _ _ _ _ _ _ (q .0) _ (q .1 .known) _ (entry .box-at .ensures .0) _ _ _ _ (shape .shape-of .ensures) _ (q .1 .there) _ (body-is c) in
+    ((w .few-ins, w .few-vars), whole-parts _ _ _ _ _ _ (q .0) _ (q .1 .known) _ (entry .box-at .ensures .0) _ _ _ _ (shape .shape-of .ensures) _ (q .1 .there) _ (body-is c))
 
 slice-aggregate-scope : tie.Need-slice-aggregate-scope
 slice-aggregate-scope c = search needs
@@ -65,49 +55,45 @@ slice-aggregate-scope-2 c = search needs
 
 scope-requires : tie.Need-scope-requires
 scope-requires c κs =
-    let body = c .before .before .before .before .before .before in
+    let body = c .before .before .before in
     let shape = body .before .before .before .before in
     let entry = shape .before .before .before .before in
     let q = entry .before .before .before .before .before .before .pre in
     let w = ready _ _ _ _ _ _ (q .0) _ (q .1 .known) _ (entry .box-at .ensures .0) _ _ _ _ (shape .shape-of .ensures) _ (q .1 .there) _ (body-is body) in
     ((w .few-ins, w .few-vars), ins-read _ _ _ (w .laid))
 
-view-of-requires : tie.Need-view-of-requires
-view-of-requires c κs =
-    let body = c .before .before .before .before .before .before .before .before in
+values-requires : tie.Need-values-requires
+values-requires c κs =
+    let body = c .before .before .before .before .before in
     let entry = body .before .before .before .before .before .before .before .before in
     let q = entry .before .before .before .before .before .before .pre in
-    (q .0, omega (arith, q .1 .known))
+    (q .0, q .1 .known)
 
 apply-requires : tie.Need-apply-requires
 apply-requires c κs =
-    let seen = c .before .before .before .before in
+    let seen = c .before .before .before in
     let typed = seen .before .before in
-    let parts = typed .before .before .before .before in
-    let laid = parts .before .before in
-    let body = laid .before in
+    let begun = typed .before .before .before in
+    let body = begun .before in
     let shape = body .before .before .before .before in
     let entry = shape .before .before .before .before in
     let q = entry .before .before .before .before .before .before .pre in
-    let y = sym (parts .parts .given .1) ∙ laid .parts-of .ensures in
-    (q .0, works _ _ _ _ _ _ (q .0) _ (q .1 .known) _ (entry .box-at .ensures .0) _ _ _ _ (shape .shape-of .ensures) _ (q .1 .there) _ (body-is body) _ y _ (seen .view-of .ensures) _ (typed .scope .ensures) (q .1 .sound))
+    (q .0, works _ _ _ _ _ _ (q .0) _ (q .1 .known) _ (entry .box-at .ensures .0) _ _ _ _ (shape .shape-of .ensures) _ (q .1 .there) _ (body-is body) _ (begun .actions-at .ensures) _ (seen .values .ensures) _ (typed .scope .ensures) (q .1 .sound))
 
 same-length : tie.Need-same-length
 same-length c = search needs
 
-returns-2 : tie.Need-returns-2
-returns-2 c =
+returns : tie.Need-returns
+returns c =
     let done = c .before .before in
-    let seen = done .before .before .before .before .before in
+    let seen = done .before .before .before .before in
     let typed = seen .before .before in
-    let parts = typed .before .before .before .before in
-    let laid = parts .before .before in
-    let body = laid .before in
+    let begun = typed .before .before .before in
+    let body = begun .before in
     let shape = body .before .before .before .before in
     let entry = shape .before .before .before .before in
     let q = entry .before .before .before .before .before .before .pre in
-    let y = sym (parts .parts .given .1) ∙ laid .parts-of .ensures in
-    fired-as _ _ _ _ _ _ (q .0) _ (q .1 .known) _ (entry .box-at .ensures .0) _ _ _ _ (shape .shape-of .ensures) _ (q .1 .there) _ (body-is body) _ y _ (seen .view-of .ensures) _ (typed .scope .ensures) _ (done .apply .ensures)
+    fired-as _ _ _ _ _ _ (q .0) _ (q .1 .known) _ (entry .box-at .ensures .0) _ _ _ _ (shape .shape-of .ensures) _ (q .1 .there) _ (body-is body) _ (begun .actions-at .ensures) _ (seen .values .ensures) _ (typed .scope .ensures) _ (done .apply .ensures)
 
 pub fire-box-spec : {M : Type 1} → statement M
 fire-box-spec =
@@ -119,14 +105,11 @@ fire-box-spec =
     slice-aggregate-shape-of-3
     shape-of-requires
     rule-body-requires
-    parts-of-requires
-    enum-known-parts
-    enum-told
-    returns
+    actions-at-requires
     slice-aggregate-scope
     slice-aggregate-scope-2
     scope-requires
-    view-of-requires
+    values-requires
     apply-requires
     same-length
-    returns-2)
+    returns)

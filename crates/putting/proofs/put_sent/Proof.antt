@@ -1,4 +1,3 @@
-use mathlib.Core.Path.{sym, _∙_}
 use mathlib.Core.Bool.{false}
 use mathlib.Core.List.{List}
 use Prim.Native.Nat.{ℕ, _-_, _≤_}
@@ -30,40 +29,28 @@ loop-holds c =
     let p = s .pre .1 .1 in
     (omega arith, sent-start _ _ _ _ _ _ _ _ _ _ _ _ (s .pre .0) (p .1 .0) (p .1 .1 .1))
 
-action-end-requires : tie.Need-action-end-requires Inv-loop μ-loop
-action-end-requires c κs = search needs
-
-enum-known-end : tie.Need-enum-known-end Inv-loop μ-loop
-enum-known-end c = search needs
-
-enum-told : tie.Need-enum-told Inv-loop μ-loop
-enum-told c = search needs
-
-same-length : tie.Need-same-length Inv-loop μ-loop
-same-length c = c .before .before .before .before .loop .inv .1 .left .became .long
-
-returns : tie.Need-returns Inv-loop μ-loop
-returns c =
-    let a = c .before .before .before .before .before .before .before .before .before .before .before .args in
-    let i = c .before .before .before .before .loop in
-    absurd (ready-there (scopeIn (a .types .now)) false (a .body .now) (a .outs - i .out) (i .at) (omega arith) (i .inv .1 .ready) (sym (c .before .before .action-end .ensures) ∙ c .enum-told .given .1))
+skip-action-requires : tie.Need-skip-action-requires Inv-loop μ-loop
+skip-action-requires c κs =
+    let a = c .before .before .before .before .before .before .before .before .args in
+    let i = c .before .loop in
+    ready-there (scopeIn (a .types .now)) false (a .body .now) (a .outs - i .out) (i .at) (omega arith) (i .inv .1 .ready)
 
 -- the action of this turn
-first : (c : tie.After-known-told Inv-loop μ-loop) →
-    let a = c .before .before .before .before .before .before .before .before .before .before .before .before .args in
-    let i = c .before .before .before .before .before .loop in
-    First (scopeIn (a .types .now)) false (a .body .now) (a .outs - i .out) (i .at) (c .before .end .given .0 .0)
+first : (c : tie.After-skip-action Inv-loop μ-loop) →
+    let a = c .before .before .before .before .before .before .before .before .before .args in
+    let i = c .before .before .loop in
+    First (scopeIn (a .types .now)) false (a .body .now) (a .outs - i .out) (i .at) (c .skip-action .result)
 first c =
-    let a = c .before .before .before .before .before .before .before .before .before .before .before .before .args in
-    let i = c .before .before .before .before .before .loop in
-    ready-first (scopeIn (a .types .now)) false (a .body .now) (a .outs - i .out) (i .at) (omega arith) (i .inv .1 .ready) _ (sym (c .before .before .before .action-end .ensures) ∙ c .before .end .given .1)
+    let a = c .before .before .before .before .before .before .before .before .before .args in
+    let i = c .before .before .loop in
+    ready-first (scopeIn (a .types .now)) false (a .body .now) (a .outs - i .out) (i .at) (omega arith) (i .inv .1 .ready) _ (c .skip-action .ensures)
 
 put-one-requires : tie.Need-put-one-requires Inv-loop μ-loop
 put-one-requires c κs =
-    let s = c .before .before .before .before .before .before .before .before .before .before .before .before .before in
-    let i = c .before .before .before .before .before .before .loop in
+    let s = c .before .before .before .before .before .before .before .before .before .before in
+    let i = c .before .before .before .loop in
     let f = first (c .before) in
-    let t = c .before .before .before .before .before .loop-test .taken in
+    let t = c .before .before .loop-test .taken in
     (i .inv .1 .left .became .stands, (s .pre .1 .0, (omega (arith, s .pre .1 .1 .0, t), (workable f, (s .pre .1 .1 .1 .1 .0, sent-places _ _ _ _ _ _ _ _ _ _ _ _ (s .pre .1 .1 .0) _ _ _ _ t f (i .inv .1))))))
 
 add-out : tie.Need-add-out Inv-loop μ-loop
@@ -74,18 +61,18 @@ loop-less c = search needs
 
 loop-again : tie.Need-loop-again Inv-loop μ-loop
 loop-again c =
-    let s = c .before .before .before .before .before .before .before .before .before .before .before .before .before .before .before .before in
-    let i = c .before .before .before .before .before .before .before .before .before .loop in
-    let t = c .before .before .before .before .before .before .before .before .loop-test .taken in
+    let s = c .before .before .before .before .before .before .before .before .before .before .before .before .before in
+    let i = c .before .before .before .before .before .before .loop in
+    let t = c .before .before .before .before .before .loop-test .taken in
     (omega arith, sent-next _ _ _ _ _ _ _ _ _ _ _ _ (s .pre .1 .1 .0) _ _ _ _ t (first (c .before .before .before .before)) (i .inv .1) _ (c .before .before .put-one .ensures))
 
-same-length-2 : tie.Need-same-length-2 Inv-loop μ-loop
-same-length-2 c = c .before .loop .inv .1 .left .became .long
+same-length : tie.Need-same-length Inv-loop μ-loop
+same-length c = c .before .loop .inv .1 .left .became .long
 
-returns-2 : tie.Need-returns-2 Inv-loop μ-loop
-returns-2 c =
+returns : tie.Need-returns Inv-loop μ-loop
+returns c =
     let s = c .before .before .before .before .before .before .before .before in
     sent-last _ _ _ _ _ _ _ _ _ _ _ _ (s .pre .1 .1 .0) _ _ _ (c .loop-test .left) (c .before .loop .inv .1)
 
 pub put-sent-spec : {M : Type 1} → statement M
-put-sent-spec = tie.close (tie.spec Inv-loop μ-loop loop-holds action-end-requires enum-known-end enum-told same-length returns put-one-requires add-out loop-less loop-again same-length-2 returns-2)
+put-sent-spec = tie.close (tie.spec Inv-loop μ-loop loop-holds skip-action-requires put-one-requires add-out loop-less loop-again same-length returns)

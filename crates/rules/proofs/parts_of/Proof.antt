@@ -4,9 +4,10 @@ use mathlib.Core.List.{List}
 use Prim.Native.Nat.{ℕ}
 use lib.ListN.{drop}
 use Rattle.model.specs.Expressions.{expression}
+use Rattle.expressions.specs.Reading.{endFrom}
 use Rattle.expressions.specs.declared.Form.the-variants.{Bytes}
 use Rattle.shapes.specs.declared.Arity.{Arity}
-use Rattle.rules.specs.Bodies.{patternsFrom, actionsFrom, endAt}
+use Rattle.rules.specs.Bodies.{patternsFrom, actionsFrom}
 use Rattle.rules.proofs.Laying.{lay-1, lay-2, lay-3, lay-4, lay-5, lay-6, lay-7}
 use borrow.Author.Needs.{needs}
 use Rattle.rules.proofs.parts_of.Statement.{statement}
@@ -48,16 +49,16 @@ outs c = c .before .outs .given .0 .0
 abbrev sets : tie.After-known-told4 → ℕ
 sets c = c .before .sets .given .0 .0
 
-vars-is : (c : tie.After-known-told) → Bytes (vars c) ≡ endAt 0 (patternsFrom false (arity c .ins) 0 (body c))
+vars-is : (c : tie.After-known-told) → Bytes (vars c) ≡ endFrom 0 (patternsFrom false (arity c .ins) 0 (body c))
 vars-is c = sym (c .before .vars .given .1) ∙ c .before .before .before .patterns-end .ensures
 
-guard-is : (c : tie.After-known-told2) → let o = told-1 c in Bytes (guard c) ≡ endAt (vars o) (patternsFrom true (arity o .vars) (vars o) (body o))
+guard-is : (c : tie.After-known-told2) → let o = told-1 c in Bytes (guard c) ≡ endFrom (vars o) (patternsFrom true (arity o .vars) (vars o) (body o))
 guard-is c = sym (c .before .guard .given .1) ∙ c .before .before .before .patterns-end2 .ensures
 
-outs-is : (c : tie.After-known-told3) → let o = told-1 (told-2 c) in Bytes (outs c) ≡ endAt (guard (told-2 c)) (expression (drop (guard (told-2 c)) (body o)))
+outs-is : (c : tie.After-known-told3) → let o = told-1 (told-2 c) in Bytes (outs c) ≡ endFrom (guard (told-2 c)) (expression (drop (guard (told-2 c)) (body o)))
 outs-is c = sym (c .before .outs .given .1) ∙ c .before .before .before .expression-end .ensures
 
-sets-is : (c : tie.After-known-told4) → let o = told-1 (told-2 (told-3 c)) in Bytes (sets c) ≡ endAt (outs (told-3 c)) (actionsFrom false (arity o .outs) (outs (told-3 c)) (body o))
+sets-is : (c : tie.After-known-told4) → let o = told-1 (told-2 (told-3 c)) in Bytes (sets c) ≡ endFrom (outs (told-3 c)) (actionsFrom false (arity o .outs) (outs (told-3 c)) (body o))
 sets-is c = sym (c .before .sets .given .1) ∙ c .before .before .before .actions-end .ensures
 
 -- ── the needs ────────────────────────────────────────────────────────────────────────────────

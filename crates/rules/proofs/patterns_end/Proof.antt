@@ -1,13 +1,14 @@
 use mathlib.Core.Path.{_≡_, refl, sym, _∙_}
 use borrow.Author.Needs.{needs}
 use Rattle.model.specs.Rules.{readPattern}
-use Rattle.rules.specs.Bodies.{patternCodes, patternsFrom, endAt}
+use Rattle.expressions.specs.Reading.{endFrom}
+use Rattle.rules.specs.Bodies.{patternCodes, patternsFrom}
 use Rattle.rules.proofs.Ends.{end-step, end-bad, end-none}
 use Rattle.rules.proofs.patterns_end.Statement.{statement}
 use Rattle.rules.proofs.patterns_end.Tie as tie
 
 abbrev Inv-loop : tie.InvT-loop
-Inv-loop b from n var at₀ left₀ at left = endAt at (patternsFrom var left at b) ≡ endAt from (patternsFrom var n from b)
+Inv-loop b from n var at₀ left₀ at left = endFrom at (patternsFrom var left at b) ≡ endFrom from (patternsFrom var n from b)
 
 abbrev μ-loop : tie.MeasureT-loop
 μ-loop b from n var at₀ left₀ at left = left

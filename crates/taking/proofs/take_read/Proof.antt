@@ -1,4 +1,4 @@
-use mathlib.Core.Path.{_≡_, sym, _∙_}
+use mathlib.Core.Path.{_≡_}
 use Prim.Native.Nat.{_-_, _≤_}
 use native.Mathlib.Omega.{arith}
 use lib.ListN.{length}
@@ -6,7 +6,7 @@ use borrow.Author.Needs.{needs}
 use Rattle.model.specs.NetworkFile.{boxAt}
 use Rattle.table.specs.Table.{indexIn}
 use Rattle.sights.proofs.Ports.{ins-count}
-use Rattle.taking.proofs.Reading.{Left, left-first, left-last, left-bad, left-asks, left-next}
+use Rattle.taking.proofs.Reading.{Left, left-first, left-last, left-there, left-asks, left-next}
 use Rattle.taking.proofs.take_read.Statement.{statement}
 use Rattle.taking.proofs.take_read.Tie as tie
 
@@ -38,23 +38,8 @@ loop-holds c =
       (omega arith, left-first _ _ _ _ _ _ _ _ _ h (start .pre .1)),
     )
 
-pattern-end-requires : tie.Need-pattern-end-requires Inv-loop μ-loop
-pattern-end-requires c κs = search needs
-
-enum-known-end : tie.Need-enum-known-end Inv-loop μ-loop
-enum-known-end c = search needs
-
-enum-told : tie.Need-enum-told Inv-loop μ-loop
-enum-told c = search needs
-
-same-length : tie.Need-same-length Inv-loop μ-loop
-same-length c = search needs
-
-returns : tie.Need-returns Inv-loop μ-loop
-returns c =
-    let looked = c .before .before in
-    let inv = looked .before .before .loop .inv in
-    absurd (left-bad _ _ _ _ _ _ _ _ _ _ _ (inv .1 .1) (omega (arith, inv .0)) (sym (looked .pattern-end .ensures) ∙ c .enum-told .given .1))
+skip-pattern-requires : tie.Need-skip-pattern-requires Inv-loop μ-loop
+skip-pattern-requires c κs = let inv = c .before .loop .inv in left-there _ _ _ _ _ _ _ _ _ _ _ (inv .1 .1) (omega (arith, inv .0))
 
 byte-at-requires-2 : tie.Need-byte-at-requires-2 Inv-loop μ-loop
 byte-at-requires-2 c κs = search needs
@@ -62,13 +47,11 @@ byte-at-requires-2 c κs = search needs
 take-at-requires : tie.Need-take-at-requires Inv-loop μ-loop
 take-at-requires c κs =
     let read = c .before in
-    let known = read .before .before in
-    let looked = known .before .before in
+    let looked = read .before in
     let loop = looked .before .before in
     let start = loop .before .before .before .before .before .before .before .before .before .before in
     let inv = loop .loop .inv in
-    let e = sym (looked .pattern-end .ensures) ∙ known .end .given .1 in
-    (inv .1 .1 .became .stands, left-asks _ _ _ _ _ _ _ _ _ _ _ (inv .1 .1) (omega (arith, inv .0)) _ _ e (read .byte-at2 .ensures) _ (start .pre .1 .known))
+    (inv .1 .1 .became .stands, left-asks _ _ _ _ _ _ _ _ _ _ _ (inv .1 .1) (omega (arith, inv .0)) _ _ (looked .skip-pattern .ensures) (read .byte-at2 .ensures) _ (start .pre .1 .known))
 
 add-j : tie.Need-add-j Inv-loop μ-loop
 add-j c = search needs
@@ -80,17 +63,15 @@ loop-again : tie.Need-loop-again Inv-loop μ-loop
 loop-again c =
     let taken = c .before .before in
     let read = taken .before .before in
-    let known = read .before .before in
-    let looked = known .before .before in
+    let looked = read .before in
     let inv = looked .before .before .loop .inv in
-    let e = sym (looked .pattern-end .ensures) ∙ known .end .given .1 in
-    (inv .0, (omega arith, left-next _ _ _ _ _ _ _ _ _ _ _ (inv .1 .1) (omega (arith, inv .0)) _ _ e (read .byte-at2 .ensures) _ (taken .take-at .ensures)))
+    (inv .0, (omega arith, left-next _ _ _ _ _ _ _ _ _ _ _ (inv .1 .1) (omega (arith, inv .0)) _ _ (looked .skip-pattern .ensures) (read .byte-at2 .ensures) _ (taken .take-at .ensures)))
 
-same-length-2 : tie.Need-same-length-2 Inv-loop μ-loop
-same-length-2 c = search needs
+same-length : tie.Need-same-length Inv-loop μ-loop
+same-length c = search needs
 
-returns-2 : tie.Need-returns-2 Inv-loop μ-loop
-returns-2 c =
+returns : tie.Need-returns Inv-loop μ-loop
+returns c =
     let inv = c .before .loop .inv in
     left-last _ _ _ _ _ _ _ _ _ _ _ (omega (arith, inv .0)) (inv .1 .1)
 
@@ -104,15 +85,11 @@ take-read-spec =
     byte-at-requires
     wide-requires
     loop-holds
-    pattern-end-requires
-    enum-known-end
-    enum-told
-    same-length
-    returns
+    skip-pattern-requires
     byte-at-requires-2
     take-at-requires
     add-j
     loop-less
     loop-again
-    same-length-2
-    returns-2)
+    same-length
+    returns)

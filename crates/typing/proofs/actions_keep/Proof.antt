@@ -4,8 +4,9 @@ use native.Mathlib.Omega.{arith}
 use borrow.Author.Needs.{needs}
 use borrow.Author.Tests.{not-true, not-false}
 use Rattle.model.specs.Rules.{readAction}
+use Rattle.expressions.specs.Reading.{isRead}
 use Rattle.rules.specs.Bodies.{actionCodes, actionsFrom}
-use Rattle.typing.specs.Fits.{fittingOf, isRead}
+use Rattle.typing.specs.Fits.{fittingOf}
 use Rattle.typing.proofs.Peeling.{not-bad}
 use Rattle.typing.proofs.Actions.{action-inside}
 use Rattle.typing.proofs.Keeping.{leftKeep, keep-none, keep-read, keep-fail, keep-more}

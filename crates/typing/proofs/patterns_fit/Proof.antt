@@ -5,8 +5,9 @@ use native.Mathlib.Omega.{arith}
 use borrow.Author.Needs.{needs}
 use borrow.Author.Tests.{not-true, not-false}
 use Rattle.model.specs.Rules.{readPattern}
+use Rattle.expressions.specs.Reading.{isRead}
 use Rattle.rules.specs.Bodies.{patternCodes, patternsFrom}
-use Rattle.typing.specs.Fits.{fittingOf, isRead}
+use Rattle.typing.specs.Fits.{fittingOf}
 use Rattle.typing.proofs.Peeling.{not-bad}
 use Rattle.typing.proofs.Patterns.{leftFit, allFit, fit-start, fit-fail, fit-more, fit-end, read-step, pattern-inside, precise-at, minus-zero}
 use Rattle.typing.proofs.patterns_fit.Statement.{statement}
