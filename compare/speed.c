@@ -1,4 +1,5 @@
-/* The same work through the library and through the reference, timed: speed. Times are of the processor, the best of a hundred tries. */
+/* The same work through the library and through the reference, timed: speed. Times are of the processor, the best of a hundred tries.
+   speed ROW 0 and speed ROW 1 do one row once, to count instructions. */
 #include "cases.h"
 #include "charmolys.h"
 
@@ -164,8 +165,16 @@ static uint64_t load_and_step(int through, const struct file *n, const struct fi
 /* Seconds that this program has used a processor. */
 static double now(void) { return (double)clock() / CLOCKS_PER_SEC; }
 
+/* The one row to do, and through which bench: for a tool that counts the instructions of a program. None: all are timed. */
+static int only_row = -1, only_through;
+
 /* Does the work through both in turn, and prints the best times; the ends must be the same. */
 static void measure(const char *name, unsigned size, work *w, const struct file *n, const struct file *t) {
+    static int row = 0;
+    if (only_row >= 0) {
+        if (row++ == only_row) w(only_through, n, t);
+        return;
+    }
     double best[2] = {1e9, 1e9};
     uint64_t cycles[2] = {0, 0};
     for (unsigned k = 0; k < TRIES; k++) {
@@ -185,10 +194,13 @@ static void measure(const char *name, unsigned size, work *w, const struct file 
            best[1] * each, best[0] * each, best[1] / best[0]);
 }
 
-/* Each piece of work as it grows. */
-int main(void) {
+/* Each piece of work as it grows. With two numbers: the work of that row (from 0) once, through the reference (0) or the library (1), and nothing printed. */
+int main(int count, char **words) {
     static struct file n, t;
-    printf("%-34s %5s %7s %10s %10s %9s %9s %7s\n", "work", "size", "cycles", "library ms", "ref. ms", "lib us/c", "ref us/c", "ratio");
+    if (count == 3) {
+        only_row = atoi(words[1]);
+        only_through = atoi(words[2]);
+    } else printf("%-34s %5s %7s %10s %10s %9s %9s %7s\n", "work", "size", "cycles", "library ms", "ref. ms", "lib us/c", "ref us/c", "ratio");
     make_queue(&n, 64);
     for (unsigned k = 125; k <= 1000; k *= 2) {
         make_tokens(&t, k);
