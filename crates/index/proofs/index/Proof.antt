@@ -50,13 +50,7 @@ same-length-2 c = c .before .before .before .before .before .before .before .bef
 
 returns-2 : tie.Need-returns-2 Inv-loop μ-loop
 unfolding Fit
-returns-2 c =
-    let judged = c .before in
-    let part = judged .before .before in
-    let told = part .before .before in
-    let read = told .before .before in
-    let i = read .before .before .loop .inv in
-    (faulty _ _ _ _ (i .0) _ _ _ (omega arith) (sym (told .f .given .1) ∙ read .field-at .ensures) _ (judged .field-fault .ensures ∙ ap (fieldFault _ _ _) (part .part .ensures .bytes)) (omega arith), tt)
+returns-2 c = (faulty _ _ _ _ (c .before .before .before .before .before .before .before .before .before .loop .inv .0) _ _ _ (omega arith) (sym (c .before .before .before .before .before .f .given .1) ∙ c .before .before .before .before .before .before .before .field-at .ensures) _ (c .before .field-fault .ensures ∙ ap (fieldFault _ _ _) (c .before .before .before .part .ensures .bytes)) (omega arith), tt)
 
 note-requires : tie.Need-note-requires Inv-loop μ-loop
 note-requires c κs = let i = c .before .before .before .before .before .before .before .before .before .before .loop .inv in (i .0 .within, (roomy _ _ (omega arith) (i .0 .within) _ _ (added _ _ _ _ (sym (c .before .before .field-fault .ensures) ∙ c .before .if1 .left)), (omega arith, omega arith)))
@@ -68,20 +62,7 @@ loop-less : tie.Need-loop-less Inv-loop μ-loop
 loop-less c = let w = field-found _ _ _ _ _ (sym (sym (c .before .before .before .before .before .before .before .before .before .f .given .1) ∙ c .before .before .before .before .before .before .before .before .before .before .before .field-at .ensures)) in omega arith
 
 loop-again : tie.Need-loop-again Inv-loop μ-loop
-loop-again c =
-    let noted = c .before .before in
-    let clear = noted .before .before in
-    let judged = clear .before in
-    let part = judged .before .before in
-    let told = part .before .before in
-    let read = told .before .before in
-    let i = read .before .before .loop .inv in
-    let field = sym (told .f .given .1) ∙ read .field-at .ensures in
-    let fault = sym (clear .if1 .left) ∙ judged .field-fault .ensures ∙ ap (fieldFault _ _ _) (part .part .ensures .bytes) in (
-      on _ _ _ _ (i .0) _ _ _ (omega arith) field _ _ fault (noted .note .ensures),
-      noted .note .kept .0 ∙ i .1,
-      still-sound _ _ _ _ _ _ _ _ _ (i .2) (sym field) (sym fault) (noted .note .ensures),
-    )
+loop-again c = let i = c .before .before .before .before .before .before .before .before .before .before .before .before .before .loop .inv in (on _ _ _ _ (i .0) _ _ _ (omega arith) (sym (c .before .before .before .before .before .before .before .before .before .f .given .1) ∙ c .before .before .before .before .before .before .before .before .before .before .before .field-at .ensures) _ _ (sym (c .before .before .before .before .if1 .left) ∙ c .before .before .before .before .before .field-fault .ensures ∙ ap (fieldFault _ _ _) (c .before .before .before .before .before .before .before .part .ensures .bytes)) (c .before .before .note .ensures), c .before .before .note .kept .0 ∙ i .1, still-sound _ _ _ _ _ _ _ _ _ (i .2) (sym (sym (c .before .before .before .before .before .before .before .before .before .f .given .1) ∙ c .before .before .before .before .before .before .before .before .before .before .before .field-at .ensures)) (sym (sym (c .before .before .before .before .if1 .left) ∙ c .before .before .before .before .before .field-fault .ensures ∙ ap (fieldFault _ _ _) (c .before .before .before .before .before .before .before .part .ensures .bytes))) (c .before .before .note .ensures))
 
 same-length-3 : tie.Need-same-length-3 Inv-loop μ-loop
 same-length-3 c = c .before .loop .inv .1

@@ -25,13 +25,9 @@ part-field-out-end c =
 field-out-requires : tie.Need-field-out-requires
 unfolding bareNet
 field-out-requires c κs =
-    let o = c .before .before in
-    let s = o .before .before .before .before .before .before in
-    let a = s .args in
-    let r = o .own-span in
-    part-needs (a .net .now) (a .table .now) (a .starts .now) (a .state .now) (a .c) (s .pre .0) (λ i. o .before .before .shared-slice-known4 .given i .fits) (a .k .0) (s .pre .1 .0) _ (a .out .now)
-    (part-at (a .net .now) (a .table .now) (a .starts .now) (a .state .now) (a .c) (s .pre .0) (λ i. o .before .before .shared-slice-known4 .given i .fits) (a .k .0) (s .pre .1 .0) (r .result .start) (r .result .end) (r .ensures .start) (r .ensures .end))
-    (s .pre .1 .1)
+    let start = c .before .before .before .before .before .before .before .before in
+    let r = c .before .before .own-span in
+    part-needs (start .args .net .now) (start .args .table .now) (start .args .starts .now) (start .args .state .now) (start .args .c) (start .pre .0) (λ i. c .before .before .before .before .shared-slice-known4 .given i .fits) (start .args .k .0) (start .pre .1 .0) _ (start .args .out .now) (part-at (start .args .net .now) (start .args .table .now) (start .args .starts .now) (start .args .state .now) (start .args .c) (start .pre .0) (λ i. c .before .before .before .before .shared-slice-known4 .given i .fits) (start .args .k .0) (start .pre .1 .0) (r .result .start) (r .result .end) (r .ensures .start) (r .ensures .end)) (start .pre .1 .1)
 
 same-length : tie.Need-same-length
 same-length c = search needs
@@ -39,14 +35,10 @@ same-length c = search needs
 returns : tie.Need-returns
 unfolding bareNet
 returns c =
-    let o = c .before .before .before .before .before in
-    let s = o .before .before .before .before .before .before in
-    let a = s .args in
-    let r = o .own-span in
+    let start = c .before .before .before .before .before .before .before .before .before .before .before in
+    let r = c .before .before .before .before .before .own-span in
     let w = c .before .before .field-out in
-    part-writes (a .net .now) (a .table .now) (a .starts .now) (a .state .now) (a .c) (s .pre .0) (λ i. o .before .before .shared-slice-known4 .given i .fits) (a .k .0) (s .pre .1 .0) _ (a .out .now) _ _
-    (part-at (a .net .now) (a .table .now) (a .starts .now) (a .state .now) (a .c) (s .pre .0) (λ i. o .before .before .shared-slice-known4 .given i .fits) (a .k .0) (s .pre .1 .0) (r .result .start) (r .result .end) (r .ensures .start) (r .ensures .end))
-    (w .ensures .0) (w .ensures .1)
+    part-writes (start .args .net .now) (start .args .table .now) (start .args .starts .now) (start .args .state .now) (start .args .c) (start .pre .0) (λ i. c .before .before .before .before .before .before .before .shared-slice-known4 .given i .fits) (start .args .k .0) (start .pre .1 .0) _ (start .args .out .now) _ _ (part-at (start .args .net .now) (start .args .table .now) (start .args .starts .now) (start .args .state .now) (start .args .c) (start .pre .0) (λ i. c .before .before .before .before .before .before .before .shared-slice-known4 .given i .fits) (start .args .k .0) (start .pre .1 .0) (r .result .start) (r .result .end) (r .ensures .start) (r .ensures .end)) (w .ensures .0) (w .ensures .1)
 
 pub write-field-spec : {M : Type 1} → statement M
 write-field-spec =

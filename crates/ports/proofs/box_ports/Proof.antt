@@ -39,19 +39,7 @@ loop-less : tie.Need-loop-less Inv-loop μ-loop
 loop-less c = search needs
 
 loop-again : tie.Need-loop-again Inv-loop μ-loop
-loop-again c =
-    let tallied = c .before .before in
-    let found = tallied .before in
-    let looked = found .before .before in
-    let l = looked .before .before .loop in
-    let s = looked .before .before .before .before .before .before in
-    let a = s .args in
-    let m = region-length 64 (a .boxes) (a .tab .now) (omega (arith, s .pre .0)) in
-    let here = looked .entry .ensures .0 ∙ sym (region-at 64 (a .boxes) (a .tab .now) (l .b) (omega (arith, looked .before .loop-test .taken))) in (
-      omega arith,
-      tallied .tally .kept .0 ∙ l .inv .1,
-      box-more (a .net .now) (l .counts) (region 64 (a .boxes) (a .tab .now)) (l .b) (looked .entry .result) here (omega arith) (a .outs) _ _ (found .ports-of .ensures) (tallied .tally .ensures) ∙ l .inv .2,
-    )
+loop-again c = let l = c .before .before .before .before .before .before .before .loop in let a = c .before .before .before .before .before .before .before .before .before .before .before .args in let m = region-length 64 (a .boxes) (a .tab .now) (omega arith) in (omega arith, c .before .before .tally .kept .0 ∙ l .inv .1, box-more (a .net .now) (l .counts) (region 64 (a .boxes) (a .tab .now)) (l .b) (c .before .before .before .before .before .entry .result) (c .before .before .before .before .before .entry .ensures .0 ∙ sym (region-at 64 (a .boxes) (a .tab .now) (l .b) (omega arith))) (omega arith) (a .outs) _ _ (c .before .before .before .ports-of .ensures) (c .before .before .tally .ensures) ∙ l .inv .2)
 
 same-length : tie.Need-same-length Inv-loop μ-loop
 same-length c = c .before .loop .inv .1

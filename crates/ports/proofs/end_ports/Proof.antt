@@ -42,18 +42,7 @@ loop-less : tie.Need-loop-less Inv-loop μ-loop
 loop-less c = search needs
 
 loop-again : tie.Need-loop-again Inv-loop μ-loop
-loop-again c =
-    let touched = c .before .before in
-    let found = touched .before in
-    let looked = found .before .before in
-    let l = looked .before .before .loop in
-    let a = looked .before .before .before .before .before .before .args in
-    let m = region-length (a .base) (a .n) (a .tab .now) (omega arith) in
-    let here = looked .entry .ensures .0 ∙ sym (region-at (a .base) (a .n) (a .tab .now) (l .k) (omega arith)) in (
-      omega arith,
-      touched .touch .kept .0 ∙ l .inv .1,
-      end-more (a .net .now) (l .counts) (region (a .base) (a .n) (a .tab .now)) (l .k) (looked .entry .result) here (omega arith) _ _ (found .byte-at .ensures) (touched .touch .ensures) ∙ l .inv .2,
-    )
+loop-again c = let l = c .before .before .before .before .before .before .before .loop in let a = c .before .before .before .before .before .before .before .before .before .before .before .args in let m = region-length (a .base) (a .n) (a .tab .now) (omega arith) in (omega arith, c .before .before .touch .kept .0 ∙ l .inv .1, end-more (a .net .now) (l .counts) (region (a .base) (a .n) (a .tab .now)) (l .k) (c .before .before .before .before .before .entry .result) (c .before .before .before .before .before .entry .ensures .0 ∙ sym (region-at (a .base) (a .n) (a .tab .now) (l .k) (omega arith))) (omega arith) _ _ (c .before .before .before .byte-at .ensures) (c .before .before .touch .ensures) ∙ l .inv .2)
 
 same-length : tie.Need-same-length Inv-loop μ-loop
 same-length c = c .before .loop .inv .1

@@ -38,14 +38,7 @@ lowest-bad-requires : tie.Need-lowest-bad-requires
 lowest-bad-requires c κs = search needs
 
 returns : tie.Need-returns
-returns c =
-    let read-ends = c .before .before .before .before in
-    let read-boxes = read-ends .before .before .before in
-    let written-ends = read-boxes .before .before .before in
-    let written-boxes = written-ends .before .before .before in
-    let p = written-boxes .before .before .before .before .pre in
-    c .lowest-bad .ensures
-    ∙ odd-is _ _ _ (p .0) (p .1 .0) _ _ _ _ (written-boxes .box-ports .ensures) (written-ends .end-ports .ensures) (read-boxes .box-ports2 .ensures) (read-ends .end-ports2 .ensures)
+returns c = let p = c .before .before .before .before .before .before .before .before .before .before .before .before .before .before .before .before .before .pre in c .lowest-bad .ensures ∙ odd-is _ _ _ (p .0) (p .1 .0) _ _ _ _ (c .before .before .before .before .before .before .before .before .before .before .before .before .before .box-ports .ensures) (c .before .before .before .before .before .before .before .before .before .before .end-ports .ensures) (c .before .before .before .before .before .before .before .box-ports2 .ensures) (c .before .before .before .before .end-ports2 .ensures)
 
 pub odd-wire-spec : {M : Type 1} → statement M
 odd-wire-spec =

@@ -33,16 +33,10 @@ add-part-2 : tie.Need-add-part-2
 add-part-2 c = search needs
 
 part-requires-2 : tie.Need-part-requires-2
-part-requires-2 c κs =
-    let counted = c .before .before .before in
-    let part = counted .before .before in
-    outs-inside _ (body-fits _ _ _ _ (part .before .before .before .pre) (part .before .two-at .ensures .0) (part .part .ensures .bytes)) (counted .wide .result) (c .wide2 .result) (cc) (cc)
+part-requires-2 c κs = outs-inside _ (body-fits _ _ _ _ (c .before .before .before .before .before .before .before .before .pre) (c .before .before .before .before .before .before .two-at .ensures .0) (c .before .before .before .before .before .part .ensures .bytes)) (c .before .before .before .wide .result) (c .wide2 .result) (cc) (cc)
 
 returns : tie.Need-returns
-returns c =
-    let counted = c .before .before .before .before in
-    let part = counted .before .before in
-    outs-are _ (part .part .result .now) _ _ (counted .wide .result) (c .before .wide2 .result) _ (body-is _ _ _ _ (part .before .two-at .ensures .0) (part .part .ensures .bytes)) (cc) (c .before .before .before .if1 .taken) (cc) (c .part2 .ensures .bytes)
+returns c = outs-are _ (c .before .before .before .before .before .before .part .result .now) _ _ (c .before .before .before .before .wide .result) (c .before .wide2 .result) _ (body-is _ _ _ _ (c .before .before .before .before .before .before .before .two-at .ensures .0) (c .before .before .before .before .before .before .part .ensures .bytes)) (cc) (c .before .before .before .if1 .taken) (cc) (c .part2 .ensures .bytes)
 
 part-requires-3 : tie.Need-part-requires-3
 part-requires-3 c κs = ins-inside _ (body-fits _ _ _ _ (c .before .before .before .before .before .before .pre) (c .before .before .before .before .two-at .ensures .0) (c .before .before .before .part .ensures .bytes)) (c .before .wide .result) _ (cc) refl

@@ -31,11 +31,7 @@ loop-less : tie.Need-loop-less Inv-loop μ-loop
 loop-less c = search needs
 
 loop-again : tie.Need-loop-again Inv-loop μ-loop
-loop-again c =
-    let t = c .before .before .touch in
-    let l = c .before .before .before .before .before .before .loop in
-    let a = c .before .before .before .before .before .before .before .before .before .args in
-    (omega arith, t .kept .0 ∙ l .inv .1, ap (λ (x : List ℕ). tallyOf x (drop (l .i + 1) (a .ws .now))) (t .ensures) ∙ sym (tally-more (l .counts) (a .ws .now) (l .i) (omega arith)) ∙ l .inv .2)
+loop-again c = let l = c .before .before .before .before .before .before .loop in let a = c .before .before .before .before .before .before .before .before .before .args in (omega arith, c .before .before .touch .kept .0 ∙ l .inv .1, ap (λ (t : List ℕ). tallyOf t (drop (l .i + 1) (a .ws .now))) (c .before .before .touch .ensures) ∙ sym (tally-more (l .counts) (a .ws .now) (l .i) (omega arith)) ∙ l .inv .2)
 
 same-length : tie.Need-same-length Inv-loop μ-loop
 same-length c = c .before .loop .inv .1

@@ -46,13 +46,11 @@ loop-less c = search needs
 
 loop-again : tie.Need-loop-again Inv-loop μ-loop
 loop-again c =
-    let entered = c .before .before .before .before .before .before .before .before .before .before in
-    let l = entered .loop in
+    let l = c .before .before .before .before .before .before .before .before .before .before .loop in
     let less = c .before .before .before .before .before .before .before .before .before .loop-test .taken in
     let byte = c .before .before .before .before .before .before .before .put-byte in
     let token = c .before .before .put-token in
-    let turn = spaced-turn (entered .before .before .before .before .args .part .now) (entered .before .two-at .result) (l .i) _ (page (l .end) (l .buf)) less (c .before .before .before .token-at .ensures .0) (byte .ensures) (token .ensures) in
-    (omega (arith, less), l .inv .1, token .kept .0 ∙ byte .kept .0 ∙ l .inv .2, turn ∙ l .inv .3)
+    (omega (arith, less), l .inv .1, token .kept .0 ∙ byte .kept .0 ∙ l .inv .2, spaced-turn (c .before .before .before .before .before .before .before .before .before .before .before .before .before .before .args .part .now) (c .before .before .before .before .before .before .before .before .before .before .before .two-at .result) (l .i) _ (page (l .end) (l .buf)) less (c .before .before .before .token-at .ensures .0) (byte .ensures) (token .ensures) ∙ l .inv .3)
 
 same-length : tie.Need-same-length Inv-loop μ-loop
 same-length c = search needs

@@ -47,13 +47,7 @@ same-length-4 : tie.Need-same-length-4
 same-length-4 c = search needs
 
 returns-4 : tie.Need-returns-4
-returns-4 c =
-    let byte = c .before .before .before .before .before .before .before in
-    let third = byte .before .before in
-    let second = third .before in
-    let first = second .before in
-    let s = first .before .before in
-    as-said _ (shown-data (s .args .t) (s .pre) (first .if1 .left) (second .if2 .left) (third .if3 .left)) (then _ _ _ (byte .put-byte .ensures) (c .before .before .put-signed2 .ensures))
+returns-4 c = as-said _ (shown-data (c .before .before .before .before .before .before .before .before .before .before .before .before .before .args .t) (c .before .before .before .before .before .before .before .before .before .before .before .before .before .pre) (c .before .before .before .before .before .before .before .before .before .before .before .if1 .left) (c .before .before .before .before .before .before .before .before .before .before .if2 .left) (c .before .before .before .before .before .before .before .before .before .if3 .left)) (then _ _ _ (c .before .before .before .before .before .before .before .put-byte .ensures) (c .before .before .put-signed2 .ensures))
 
 pub put-token-spec : {M : Type 1} → statement M
 put-token-spec =

@@ -45,11 +45,7 @@ loop-less : tie.Need-loop-less Inv-loop μ-loop
 loop-less c = search needs
 
 loop-again : tie.Need-loop-again Inv-loop μ-loop
-loop-again c =
-    let a = c .before .before .before .before .before .before .before .before .before .args in
-    let l = c .before .before .before .before .loop in
-    let typed = typeIn (a .net .now) (a .table .now) (a .wires) in
-    (omega arith, simp length-set (l .inv .1), pair-more (l .types) (l .k) _ _ (omega arith) (λ j. typed (getD (a .ports .now) j 0)) (l .inv .2) (c .wire-type .ensures ∙ ap typed (c .before .wide .ensures .0)))
+loop-again c = let a = c .before .before .before .before .before .before .before .before .before .args in let l = c .before .before .before .before .loop in (omega arith, simp length-set (l .inv .1), pair-more (l .types) (l .k) _ _ (omega arith) (λ j. typeIn (a .net .now) (a .table .now) (a .wires) (getD (a .ports .now) j 0)) (l .inv .2) (c .wire-type .ensures ∙ ap (typeIn (a .net .now) (a .table .now) (a .wires)) (c .before .wide .ensures .0)))
 
 same-length : tie.Need-same-length Inv-loop μ-loop
 same-length c = c .before .loop .inv .1

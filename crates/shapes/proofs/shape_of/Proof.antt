@@ -34,12 +34,7 @@ same-length-3 : tie.Need-same-length-3
 same-length-3 c = search needs
 
 returns : tie.Need-returns
-returns c =
-    let shaped = c .before .before .before .before .before .before in
-    let part = shaped .before .before .before .before in
-    let a = part .before .before .before .before .before .before .before .args in
-    shaped .shape-in .ensures
-    ∙ ap (λ (b : List ℕ). shapeOf (wiresIn (a .net .now) (a .table .now) (a .wires)) (boxOf b)) (body-is _ _ _ _ (part .before .two-at .ensures .0) (part .part .ensures .bytes))
+returns c = let a = c .before .before .before .before .before .before .before .before .before .before .before .before .before .before .before .before .before .args in c .before .before .before .before .before .before .shape-in .ensures ∙ ap (λ (b : List ℕ). shapeOf (wiresIn (a .net .now) (a .table .now) (a .wires)) (boxOf b)) (body-is _ _ _ _ (c .before .before .before .before .before .before .before .before .before .before .before .two-at .ensures .0) (c .before .before .before .before .before .before .before .before .before .before .part .ensures .bytes))
 
 pub shape-of-spec : {M : Type 1} → statement M
 shape-of-spec =

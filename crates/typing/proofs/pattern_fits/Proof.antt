@@ -53,10 +53,7 @@ returns-3 c =
     let a = c .before .before .before .before .before .before .before .before .before .before .args in
     let k = c .before .before .before .before .before .before .before .before .byte-at in
     let v = c .before .value-at in
-    let tagged = c .before .before .before .before .before in
-    let tag-is = ap (tagFits (a .t)) (sym (tagged .before .pattern-tag .ensures)) ∙ sym (tagged .tag-fits .ensures) ∙ not-false _ (c .before .before .before .before .if2 .left) in
-    fits-constant (a .t) (k .result) (valueAt (a .b .now) (a .at + 1)) (λ e. tagged .before .before .if1 .left e) tag-is (c .before .before .before .if3 .taken)
-    (c .within .ensures ∙ rw (back {z = v .result} (omega (arith, v .ensures .1)), v .ensures .0, c .before .before .carried .ensures))
+    fits-constant (a .t) (k .result) (valueAt (a .b .now) (a .at + 1)) (λ e. c .before .before .before .before .before .before .before .if1 .left e) (ap (tagFits (a .t)) (sym (c .before .before .before .before .before .before .pattern-tag .ensures)) ∙ sym (c .before .before .before .before .before .tag-fits .ensures) ∙ not-false _ (c .before .before .before .before .if2 .left)) (c .before .before .before .if3 .taken) (c .within .ensures ∙ rw (back {z = v .result} (omega (arith, v .ensures .1)), v .ensures .0, c .before .before .carried .ensures))
     ∙ ap (λ (j : ℕ). patternFits (a .t) (patternOf j (valueAt (a .b .now) (a .at + 1)))) (k .ensures)
 
 returns-4 : tie.Need-returns-4

@@ -34,10 +34,7 @@ unfolding typeAt
 returns c =
     let s = c .before .before .before .before .before .before .before .before .before .before .before in
     let a = s .args in
-    let fourth = c .before .before .before .before in
-    scope-agree _ (a .ins .now) (a .vars .now) (a .a .ins) (a .a .vars) _ (s .pre .0 .0) (s .pre .0 .1)
-    (fourth .before .before .before .matched-type .ensures) (fourth .before .before .matched-type2 .ensures) (fourth .before .matched-type3 .ensures) (fourth .matched-type4 .ensures)
-    (c .before .before .before .variable-type .ensures) (c .before .before .variable-type2 .ensures) (c .before .variable-type3 .ensures) (c .variable-type4 .ensures)
+    scope-agree _ (a .ins .now) (a .vars .now) (a .a .ins) (a .a .vars) _ (s .pre .0 .0) (s .pre .0 .1) (c .before .before .before .before .before .before .before .matched-type .ensures) (c .before .before .before .before .before .before .matched-type2 .ensures) (c .before .before .before .before .before .matched-type3 .ensures) (c .before .before .before .before .matched-type4 .ensures) (c .before .before .before .variable-type .ensures) (c .before .before .variable-type2 .ensures) (c .before .variable-type3 .ensures) (c .variable-type4 .ensures)
 
 pub scope-spec : {M : Type 1} → statement M
 scope-spec = tie.close (tie.spec matched-type-requires matched-type-requires-2 matched-type-requires-3 matched-type-requires-4 variable-type-requires variable-type-requires-2 variable-type-requires-3 variable-type-requires-4 returns)

@@ -57,10 +57,8 @@ returns : tie.Need-returns
 returns c =
     let s = c .before .before .before .before .before .before .before .before .before .before in
     let a = s .args in
-    let told = c .before .before .before .before .before in
-    let type-is = part-typed (scopeIn (a .types .now)) (a .b .now) _ (a .at + 1) (part-is (a .b .now) (a .at + 1)) (s .pre .1) (sym (told .ty .given .1) ∙ told .before .before .type-of .ensures) in
     c .fit-if .ensures
-    ∙ ap fittingOf (sent-typed (scopeIn (a .types .now)) (a .at) (a .tag) (a .t) _ _ _ _ _ type-is (c .before .before .before .carried .ensures) (c .before .before .same-type .ensures) (c .before .tag-fits .ensures))
+    ∙ ap fittingOf (sent-typed (scopeIn (a .types .now)) (a .at) (a .tag) (a .t) _ _ _ _ _ (part-typed (scopeIn (a .types .now)) (a .b .now) _ (a .at + 1) (part-is (a .b .now) (a .at + 1)) (s .pre .1) (sym (c .before .before .before .before .before .ty .given .1) ∙ c .before .before .before .before .before .before .before .type-of .ensures)) (c .before .before .before .carried .ensures) (c .before .before .same-type .ensures) (c .before .tag-fits .ensures))
 
 returns-2 : tie.Need-returns-2
 returns-2 c =

@@ -62,17 +62,11 @@ expressions-fit-requires c κs = search needs
 
 returns-3 : tie.Need-returns-3
 returns-3 c =
-    let scoped = c .before .before in
-    let vars = scoped .before .before .before in
-    let ins = vars .before .before .before in
-    let s = ins .before .before .before .before .before in
+    let s = c .before .before .before .before .before .before .before .before .before .before .before .before .before in
     let a = s .args in
     let x = laid (a .a) (a .b .now) (a .p) (s .pre .1 .1 .0) in
-    let vars-fit = sym (scoped .before .enum-told3 .given .1) ∙ vars .patterns-fit2 .ensures in
-    let ins-fit = sym (vars .before .enum-told .given .1) ∙ ins .patterns-fit .ensures in
     c .expressions-fit .ensures
-    ∙ ap fittingOf (expressions-same _ _ (scoped .scope .ensures) (a .a) (a .p) (a .outs .now) (a .vars .now) (a .b .now) ∙ sym (also-on _ _ vars-fit) ∙ sym (also-on _ _ ins-fit)
-    ∙ sym (rule-fits (a .ins .now) (a .outs .now) (a .vars .now) (a .b .now) (a .a) (a .p) x))
+    ∙ ap fittingOf (expressions-same _ _ (c .before .before .scope .ensures) (a .a) (a .p) (a .outs .now) (a .vars .now) (a .b .now) ∙ sym (also-on _ _ (sym (c .before .before .before .enum-told3 .given .1) ∙ c .before .before .before .before .before .patterns-fit2 .ensures)) ∙ sym (also-on _ _ (sym (c .before .before .before .before .before .before .enum-told .given .1) ∙ c .before .before .before .before .before .before .before .before .patterns-fit .ensures)) ∙ sym (rule-fits (a .ins .now) (a .outs .now) (a .vars .now) (a .b .now) (a .a) (a .p) x))
 
 pub types-fit-spec : {M : Type 1} → statement M
 types-fit-spec = tie.close (tie.spec patterns-fit-requires enum-told enum-told-2 returns patterns-fit-requires-2 enum-told-3 enum-told-4 returns-2 scope-requires expressions-fit-requires returns-3)
