@@ -2,17 +2,28 @@
 -- the definitions, on bytes.
 -- Assumes nothing.
 use Prim.Native.Nat.{ℕ, zero, suc}
-use mathlib.Core.Path.{_≡_, refl}
+use mathlib.Core.Path.{_≡_, refl, ap}
+use mathlib.Core.Bool.{Bool, true, false, not, _&&_}
 use mathlib.Core.List.{List, [], _∷_, _++_, map}
-use lib.ListN.{drop, replicate}
+use lib.Dec.{leb, eqb}
+use lib.ListN.{getD, take, drop, length, replicate}
 use lib.IntN.{ℤ, pos, negsuc}
+use native.Mathlib.Omega.{arith}
+use borrow.Author.Tests.{le-leb}
 use Rattle.model.specs.declared.Ty.{Ty}
 use Rattle.model.specs.declared.Outcome.{Outcome}
 use Rattle.model.specs.declared.Outcome.the-variants.{Value, Fault}
 use Rattle.model.specs.Bytes.{valueBytes}
-use Rattle.model.specs.Expressions.{Read, bad, got, Exp, expression, valueOf}
-use Rattle.model.specs.NetworkFile.{Stretch}
-use Rattle.model.specs.Calls.{Answer, marks, idle, spent, refused, checkCall, bodyCall, loadCall, markCall, cycleCall, runCall, writeCall}
+use Rattle.model.specs.Values.{bool}
+use Rattle.model.specs.Expressions.{Read, bad, got, Exp, literal, matched, two, expression, valueOf}
+use Rattle.model.specs.declared.Token.{Token}
+use Rattle.model.specs.Network.{Net, box, State, vars}
+use Rattle.model.specs.NetworkFile.{Stretch, good, next, orRefuse, byVerdict}
+use Rattle.model.specs.States.{readTokens, stateSize, stateFits, stateIn}
+use Rattle.model.specs.Rules.{any, send}
+use Rattle.model.specs.Cycles as C
+use Rattle.model.specs.Cycles.{Mark, quiet, attempt, orElse, mark, finding}
+use Rattle.model.specs.Calls.{Answer, marks, idle, spent, refused, roomy, held, withTokens, noMarks, marksOf, checkCall, bodyCall, loadCall, markCall, cycleCall, runCall, writeCall}
 use Rattle.model.specs.Printing.{printed}
 use Rattle.model.specs.Opened.{opened}
 
@@ -90,6 +101,11 @@ signed p = record { kind = 1; p = p }
 unfoldable unsigned : ℕ → Ty
 unsigned p = record { kind = 2; p = p }
 
+-- what a marking answers where nothing is marked: no process, or the refusal of bytes that hold no state
+unfoldable unmarked : List ℕ → List ℕ → List ℕ → Answer
+unfolding opened
+unmarked s ts st = byVerdict (next (withTokens s ts) (held true st)) (λ h. marks 0) (λ n p. refused n p 0)
+
 -- the bytes of a literal
 unfoldable lit : Ty → ℤ → List ℕ
 unfolding opened
@@ -110,11 +126,72 @@ unfoldable calc : ℕ → Ty → ℤ → ℤ → Shown
 unfolding worked lit
 calc o t a b = worked (o ∷ (lit t a ++ lit t b))
 
+-- ── P11: nothing is marked, whatever bytes are lent ──────────────────────────────────────────
+
+-- the network of that file
+unfoldable looped : Net
+looped = record {
+  wires = record { ty = signed 8; capacity = 1 } ∷ [];
+  procs = box (record { ins = 0 ∷ []; outs = 0 ∷ []; vars = []; rules = record { ins = any 0 ∷ []; vars = []; guard = literal bool (pos 1); outs = send 0 (two 10 (matched 0) (literal (signed 8) (pos 1))) ∷ []; sets = [] } ∷ [] }) ∷ [];
+}
+
+looped-is : withTokens loop [] ≡ good looped
+unfolding loop looped signed opened
+looped-is = refl
+
+-- a state of it, with this queue on its wire
+unfoldable holding : List Token → State
+holding q = record { queues = q ∷ []; owns = vars [] ∷ [] }
+
+-- a rule whose written output is full isn't fireable, whatever waits
+shut : (ready full : Bool) (m : Mark) → full ≡ true → attempt ((ready && true) && true && (not (true && full) && true)) m ≡ quiet
+unfolding attempt
+shut true true m e = refl
+shut true false m e = cc
+shut false full m e = refl
+
+-- its wire is empty, or holds a token and so is full
+loop-quiet : (q : List Token) → mark looped (holding q) 0 ≡ quiet
+unfolding looped holding signed opened
+loop-quiet [] = refl
+loop-quiet (t ∷ ts) = ap (λ (m : Mark). orElse m quiet) (shut (eqb 0 (t .tag)) (leb 1 (length (t ∷ ts))) _ (le-leb 1 (length (t ∷ ts)) (omega arith)))
+
+-- and so nothing is marked in it
+none-found : (q : List Token) → finding looped (holding q) ≡ C.still
+unfolding looped finding C.faultIn C.blame C.processes C.upFrom C.anyMark C.markedOf C.markedFrom C.marked C.keepIf
+none-found q = rw (loop-quiet q) refl
+
+none-set : (q : List Token) → C.markedSet looped (holding q) ≡ 0
+unfolding looped C.processes C.upFrom C.markedSet C.markedOf C.markedFrom C.marked C.keepIf C.bits
+none-set q = rw (loop-quiet q) refl
+
+none-marked : (q : List Token) → (marksOf looped (holding q) (finding looped (holding q))) .answer ≡ marks 0
+unfolding marksOf
+none-marked q = rw (none-found q, none-set q) refl
+
+-- so a marking answers 0, or refuses the lent bytes
+by-checks : (st : List ℕ) (n : Net) (room fit : Bool) → leb (stateSize n) (length st) ≡ room → stateFits n true st ≡ fit → (marksOf n (stateIn n st) (finding n (stateIn n st))) .answer ≡ marks 0 →
+    (byVerdict (held true st n) (λ h. marksOf (h .net) (h .state) (finding (h .net) (h .state))) (λ k p. noMarks (refused k p 0))) .answer
+    ≡ byVerdict (held true st n) (λ h. marks 0) (λ k p. refused k p 0)
+unfolding held roomy next orRefuse byVerdict noMarks
+by-checks st n true true r f e = rw (r, f) e
+by-checks st n true false r f e = rw (r, f) refl
+by-checks st n false fit r f e = rw r refl
+
+state-is : (st : List ℕ) → stateIn looped st ≡ holding (readTokens (getD (take 6 st) 0 0) (drop 1 (take 6 st)))
+unfolding looped holding opened
+state-is st = refl
+
+never-marked : (st : List ℕ) → (markCall loop [] st) .answer ≡ unmarked loop [] st
+unfolding unmarked markCall next
+never-marked st = rw looped-is (by-checks st looped _ _ refl refl (rw (state-is st) (none-marked _)))
+
 -- ── P1 to P12 ────────────────────────────────────────────────────────────────────────────────
 
-unfoldable table : List Row
+-- the rows that compute
+unfoldable rows : List Row
 unfolding inc three loop swap by-zero first-ready start history ran signed unsigned lit worked calc opened
-table =
+rows =
     -- P1, INC marks 2, 1, 6, 1, 6, 1, 4 in cycles 1 to 7; then nothing
     record { shown = sets (history (inc 1) three 8 (start (inc 1) three 56)); stated = sets (map marks (2 ∷ 1 ∷ 6 ∷ 1 ∷ 6 ∷ 1 ∷ 4 ∷ 0 ∷ [])) }
     -- P2, with both capacities 2 it is idle after 5, and its third cycle marks 7
@@ -139,7 +216,7 @@ table =
     ∷ record { shown = calc 17 (unsigned 4) (pos 12) (pos 10); stated = works (Value (unsigned 4) (pos 7)) }
     -- P10, cast of signed 8 -1 to unsigned 4 = 15
     ∷ record { shown = worked (3 ∷ 2 ∷ 4 ∷ lit (signed 8) (negsuc 0)); stated = works (Value (unsigned 4) (pos 15)) }
-    -- P11, the box wired to itself is never marked, its wire empty or full
+    -- P11 in two states: the wire of the box wired to itself empty, and full
     ∷ record { shown = sets (history loop [] 1 (start loop [] 6) ++ history loop [] 1 (1 ∷ 0 ∷ 0 ∷ 0 ∷ 0 ∷ 5 ∷ [])); stated = sets (map marks (0 ∷ 0 ∷ [])) }
     -- P12, the empty network is idle after 0
     ∷ record { shown = answers (ran [] [] 0 1000); stated = answers (idle 0) }
@@ -151,10 +228,14 @@ table =
     ∷ record { shown = answers (ran first-ready [] 0 3); stated = answers (spent 3) }
     ∷ []
 
+-- all rows, for any bytes st that may be lent: P11, the box wired to itself is never marked, whatever state they hold, and so in none that is reached
+unfoldable table : List ℕ → List Row
+table st = record { shown = answers ((markCall loop [] st) .answer); stated = answers (unmarked loop [] st) } ∷ rows
+
 -- the one statement: every row shows what the workbook writes
-workbook : map (λ (r : Row). r .shown) table ≡ map (λ (r : Row). r .stated) table
-unfolding table
-workbook = refl
+workbook : (st : List ℕ) → map (λ (r : Row). r .shown) (table st) ≡ map (λ (r : Row). r .stated) (table st)
+unfolding table rows
+workbook st = ap (λ (a : Answer). answers a ∷ map (λ (r : Row). r .stated) rows) (never-marked st)
 
 -- ── a smallest argument for each refusal number, with its place ──────────────────────────────
 
