@@ -4,8 +4,8 @@
     assemble.py FOLDER...              writes the .bin files beside the texts
     assemble.py --into DIR FOLDER...   writes them to DIR/NAME instead
 
-README.md describes the text. A mistake is told with its file and line; limits that concern a whole
-network (numbers of things, lengths, depth, the ends of wires) are left to the bench.
+README.md describes the text. A mistake is told in one line, with its file and line, and ends with status 1, a wrong call
+with status 2; limits that concern a whole network (numbers of things, lengths, depth, the ends of wires) are left to the bench.
 """
 import os
 import re
@@ -23,7 +23,13 @@ class Bad(Exception):
     pass
 
 
+def is_number(word):
+    return word.isascii() and word.isdigit()
+
+
 def field(tag, body):
+    if len(body) > 65535:
+        raise Bad("more bytes than the two of a field's length can tell")
     return bytes([tag]) + len(body).to_bytes(2, "big") + body
 
 
@@ -112,10 +118,10 @@ class Line:
         """A number, true, false or a const, with its type (None for a bare number)."""
         sign = -1 if self.take("-") else 1
         word = self.see()
-        if not word.isdigit() and (sign < 0 or word not in self.consts):
+        if not is_number(word) and (sign < 0 or word not in self.consts):
             raise Bad(f"a value or a known name is wanted, not `{word}`")
         self.need()
-        return (sign * int(word), None) if word.isdigit() else self.consts[word]
+        return (sign * int(word), None) if is_number(word) else self.consts[word]
 
     def number(self, low, high, what):
         value = self.constant()[0]
@@ -223,6 +229,8 @@ class Network:
         def new(known):
             if line.see() in known:
                 raise Bad(f"`{line.see()}` is there already")
+            if word != "const" and len(known) == 255:
+                raise Bad("more of a thing than one byte can count")
             return line.name()
 
         def port():
@@ -278,7 +286,7 @@ class Network:
 
 def each(path, do):
     """Calls `do` for each line, without its comment; a line that ends in a comma goes on in the next."""
-    with open(path, encoding="utf-8") as f:
+    with open(path, encoding="utf-8", errors="replace") as f:
         texts, held = [text.split("--")[0].rstrip() for text in f], ""
     for number, text in enumerate(texts, 1):
         held += text + " "
@@ -287,24 +295,37 @@ def each(path, do):
                 do(held)
             except Bad as e:
                 sys.exit(f"{path}:{number}: {e}")
+            except RecursionError:
+                sys.exit(f"{path}:{number}: too many brackets inside each other")
             held = ""
+
+
+def assemble(folder, into):
+    """Makes the two files of a folder."""
+    network, rows, path = Network(), [], os.path.join(folder, "tokens.txt")
+    each(os.path.join(folder, "network.txt"), network.line)
+    each(path, lambda text: network.row(text, rows))
+    if len(rows) < len(network.inputs):
+        sys.exit(f"{path}: no row for `{list(network.inputs)[len(rows)]}`")
+    target = os.path.join(into, os.path.basename(os.path.normpath(folder))) if into else folder
+    os.makedirs(target, exist_ok=True)
+    for name, data in (("network.bin", network.bytes()), ("tokens.bin", b"".join(rows))):
+        with open(os.path.join(target, name), "wb") as f:
+            f.write(data)
 
 
 def main(folders):
     into = None
     if folders[:1] == ["--into"]:
-        into, folders = folders[1], folders[2:]
+        into, folders = (folders[1:2] or [None])[0], folders[2:]
+    if not folders or any(f.startswith("--") for f in folders):
+        print("usage: assemble.py [--into DIR] FOLDER...", file=sys.stderr)
+        sys.exit(2)
     for folder in folders:
-        network, rows, path = Network(), [], os.path.join(folder, "tokens.txt")
-        each(os.path.join(folder, "network.txt"), network.line)
-        each(path, lambda text: network.row(text, rows))
-        if len(rows) < len(network.inputs):
-            sys.exit(f"{path}: no row for `{list(network.inputs)[len(rows)]}`")
-        target = os.path.join(into, os.path.basename(os.path.normpath(folder))) if into else folder
-        os.makedirs(target, exist_ok=True)
-        for name, data in (("network.bin", network.bytes()), ("tokens.bin", b"".join(rows))):
-            with open(os.path.join(target, name), "wb") as f:
-                f.write(data)
+        try:
+            assemble(folder, into)
+        except OSError as e:
+            sys.exit(f"{e.filename or folder}: {e.strerror}")
 
 
 if __name__ == "__main__":

@@ -4,12 +4,16 @@
 # Assembles every example into a temporary folder, compares the files with the stored network.bin and tokens.bin, runs
 # simulate.py on them and compares what it prints with expected.txt. With RUN, a run program, this is also started in each
 # folder (it reads network.bin and tokens.bin there) and what it prints is compared too; so it is in the folders of limits/.
-# The last line is `N examples, D different`; the answer is 0 exactly when D is 0.
+# The last line is `N examples, D different`; the status is 0 where D is 0, 1 where it isn't, 2 where RUN isn't there.
 set -u
 case "${1-}" in
   /*) ;;
   */*) set -- "$PWD/$1" "${@:2}" ;;
 esac
+if [ $# -gt 0 ] && ! command -v "$1" > /dev/null; then
+  echo "check.sh: there is no program $1" >&2
+  exit 2
+fi
 here=$(cd "$(dirname "$0")" && pwd)
 made=$(mktemp -d)
 trap 'rm -r "$made"' EXIT

@@ -4,6 +4,8 @@
     simulate.py FOLDER [BUDGET]            the budget is 1,000 unless it is given
     simulate.py --watch FOLDER [BUDGET]    first a line a cycle: the marked processes and the wires' counts after it
 
+A wrong call ends with a line and status 2, a folder that isn't there with status 1.
+
 It shares nothing with assemble.py or with the bench, and is only there to check expected.txt. It takes files to be good:
 where they can't be read it prints `refused`, without the number and place that the bench gives.
 """
@@ -263,9 +265,17 @@ def content(folder, name):
         return b""
 
 
-if __name__ == "__main__":
-    args = sys.argv[1:]
+def main(args):
     watch = args[:1] == ["--watch"]
     args = args[watch:]
+    if len(args) not in (1, 2) or args[0].startswith("--") or not (args[1:] or ["0"])[0].isdecimal():
+        print("usage: simulate.py [--watch] FOLDER [BUDGET]", file=sys.stderr)
+        sys.exit(2)
+    if not os.path.isdir(args[0]):
+        sys.exit(f"simulate.py: {args[0]} is no folder")
     budget = int(args[1]) if len(args) > 1 else 1000
     print("\n".join(printed(content(args[0], "network.bin"), content(args[0], "tokens.bin"), budget, watch)))
+
+
+if __name__ == "__main__":
+    main(sys.argv[1:])
