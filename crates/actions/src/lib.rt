@@ -1,3 +1,5 @@
+#![tactic(auto)]
+
 // A rule's guard and actions, each worked out from the part of the rule body where it begins.
 ghost use Rattle.std.specs.Prelude.{◌≡◌, true, ◌≤◌, ◌<◌, length, drop};
 ghost use Rattle.model.specs.Expressions.{expression, value_of};

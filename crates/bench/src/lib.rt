@@ -1,3 +1,5 @@
+#![tactic(auto)]
+
 // The calls of the bench on lent memory: refusals in the order of document 01, then the work. None of them asks for anything.
 ghost use Rattle.std.specs.Prelude.{◌≡◌};
 ghost use Rattle.model.specs.Cycles.{finding};

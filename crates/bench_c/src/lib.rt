@@ -1,3 +1,5 @@
+#![tactic(auto)]
+
 // The calls of the bench for C. Numbers and bytes come in; the answer's word is returned, and its numbers go into an array that the
 // caller lends. A number that finds no place in a short array is left out. None of them asks for anything.
 ghost use Rattle.std.specs.Prelude.{◌≡◌, cond, [], leb, set};

@@ -1,3 +1,5 @@
+#![tactic(auto)]
+
 // A cycle: the marked processes fire one after another, each by the rule from the cycle's start. A run: cycle after cycle.
 ghost use Rattle.std.specs.Prelude.{◌≡◌, true, cond, ◌+◌, ◌≤◌, ◌<◌, length};
 ghost use Rattle.model.specs.Cycles.{cycle_in, marked_of, finding, has, run};

@@ -1,3 +1,5 @@
+#![tactic(auto)]
+
 // Whether an input and an output are marked, from the lent state as it stands.
 ghost use Rattle.std.specs.Prelude.{◌≡◌, ◌+◌, ◌≤◌, ◌<◌};
 ghost use Rattle.model.specs.Bytes.{two_at};

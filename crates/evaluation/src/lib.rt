@@ -1,3 +1,5 @@
+#![tactic(auto)]
+
 // The value of an expression that keeps the limits and has a type, worked out from its operands.
 ghost use Rattle.std.specs.Prelude.{◌≡◌, true, false, cond, ◌&&◌, ◌+◌, ◌≤◌, ◌^◌, eqb, ltb, pos, length, get_or, drop};
 ghost use Rattle.std.specs.Int.Signed.{mag};

@@ -1,3 +1,5 @@
+#![tactic(auto)]
+
 // Prefix expressions on bytes: their form at any depth, and their limits.
 ghost use Rattle.std.specs.Prelude.{◌≡◌, true, ◌+◌, ◌≤◌, ◌<◌, ◌^◌, length, get_or, drop};
 ghost use Rattle.std.specs.Int.Signed.{mag};

@@ -1,3 +1,5 @@
+#![tactic(auto)]
+
 // What is wrong with a field of the network file by itself: 1 form, 2 limits, 4 types, 0 where all is well.
 ghost use Rattle.std.specs.Prelude.{true, ◌≡◌, ◌+◌, ◌*◌, ◌<◌, leb, ltb, get_or};
 ghost use Rattle.model.specs.Values.{in_precision};

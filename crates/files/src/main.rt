@@ -1,3 +1,5 @@
+#![tactic(auto)]
+
 // Network files checked and rule bodies looked up: reads rows (0 for a check or 1 for a body, box, rule, a length of two bytes, that many bytes of a file), prints each answer on a line.
 use libc::{STDIN_FILENO, STDOUT_FILENO};
 use model::{CheckAnswer, ProcessId, RuleId};

@@ -1,3 +1,5 @@
+#![tactic(auto)]
+
 // One firing of a process under the rule that was chosen at the cycle's start, in place on the lent state.
 ghost use Rattle.model.specs.NetworkFile.{box_at};
 ghost use Rattle.model.specs.Cycles.{act};

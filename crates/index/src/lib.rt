@@ -1,3 +1,5 @@
+#![tactic(auto)]
+
 // The fields of a network file: each checked in its turn, and its offset noted in a table.
 ghost use Rattle.std.specs.Prelude.{◌≡◌, ◌≤◌, length};
 ghost use Rattle.model.specs.NetworkFile.{field_fault, fields};

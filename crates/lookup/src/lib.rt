@@ -1,3 +1,5 @@
+#![tactic(auto)]
+
 // What stands at a wire's, a process's or a rule's number of an accepted network: read off the table of offsets, in the network file itself.
 // A number is unwrapped here alone, where it meets the table.
 ghost use Rattle.std.specs.Prelude.{◌≡◌, cond, [], ◌+◌, ◌≤◌, ◌<◌, ltb, length, get_or};

@@ -1,3 +1,5 @@
+#![tactic(auto)]
+
 // Which processes are marked, and by which rule: from the state at the cycle's start alone.
 ghost use Rattle.std.specs.Prelude.{◌≡◌, List, ◌+◌, ◌^◌, ◌≤◌, ◌<◌, length, replicate};
 ghost use Rattle.model.specs.Cycles.{mark, flag, finding};

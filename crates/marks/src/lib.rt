@@ -1,3 +1,5 @@
+#![tactic(auto)]
+
 // The marked set: one 64-bit number, bit k for process k. Bits are set, tested and cleared by shifts and masks.
 ghost use Rattle.std.specs.Prelude.{◌≡◌, true, ◌+◌, ◌-◌, ◌<◌, ◌^◌};
 ghost use Rattle.model.specs.Cycles.{has, is_order};

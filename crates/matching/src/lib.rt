@@ -1,3 +1,5 @@
+#![tactic(auto)]
+
 // A rule's patterns and output actions against what its box sees.
 ghost use Rattle.std.specs.Prelude.{◌≡◌, true, false, ◌+◌, ◌<◌, length, get_or};
 ghost use Rattle.model.specs.Bytes.{value_at};

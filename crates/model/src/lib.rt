@@ -1,3 +1,5 @@
+#![tactic(auto)]
+
 // The plain data that the bench's code and the definitions of document 01 share.
 
 // A type: kind 0 bool, 1 signed, 2 unsigned, and for a wire also 3 dc of signed, 4 dc of unsigned; then its precision.

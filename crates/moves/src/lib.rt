@@ -1,3 +1,5 @@
+#![tactic(auto)]
+
 // The single moves that a firing is made of, each done in place on the lent state.
 ghost use Rattle.std.specs.Prelude.{◌≡◌};
 ghost use Rattle.places.specs.Standing.{Standing, net_in, state_of};

@@ -1,3 +1,5 @@
+#![tactic(auto)]
+
 // The whole check of a network file: 2 for its length, then the fields, then the ports.
 ghost use Rattle.std.specs.Prelude.{◌≡◌, ◌≤◌, length};
 ghost use Rattle.model.specs.NetworkFile.{network};

@@ -1,3 +1,5 @@
+#![tactic(auto)]
+
 // Bytes, and the numbers of two and four bytes that they hold, high byte first. Every read is total: past the end stand zeros.
 ghost use Rattle.std.specs.Prelude.{◌≡◌, ◌++◌, ◌+◌, ◌≤◌, ◌<◌, ◌^◌, length, get_or, drop};
 ghost use Rattle.std.specs.Int.Signed.{mag};

@@ -1,3 +1,5 @@
+#![tactic(auto)]
+
 // The opening of a call: the checks of its files and of the lent state, in the order of document 01.
 ghost use Rattle.std.specs.Prelude.{◌≤◌, length};
 ghost use Rattle.states.specs.Saved.{Known};

@@ -1,3 +1,5 @@
+#![tactic(auto)]
+
 // Operators at the edges of types: reads rows of 11 bytes (code, kind, p, two four-byte values) and prints each result on a line.
 ghost use Rattle.std.specs.Prelude.{◌≤◌, ◌<◌, ◌^◌};
 ghost use Rattle.std.specs.Int.Signed.{mag};

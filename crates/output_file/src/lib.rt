@@ -1,3 +1,5 @@
+#![tactic(auto)]
+
 // The output file of a saved state: one field of tag 33 for each output, in order.
 ghost use Rattle.std.specs.Prelude.{◌≡◌, ◌++◌, ◌≤◌, length, drop};
 ghost use Rattle.model.specs.States.{output_file, state_in};

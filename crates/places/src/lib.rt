@@ -1,3 +1,5 @@
+#![tactic(auto)]
+
 // Where the bytes of each wire and of each process begin in a state, and how many bytes a state takes.
 ghost use Rattle.std.specs.Prelude.{◌≡◌, [], ◌+◌, ◌≤◌, ◌<◌, length, get_or};
 ghost use Rattle.model.specs.NetworkFile.{net_of};

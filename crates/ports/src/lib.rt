@@ -1,3 +1,5 @@
+#![tactic(auto)]
+
 // Each wire has exactly one writing and one reading port.
 ghost use Rattle.std.specs.Prelude.{◌≡◌, [], ◌+◌, ◌≤◌, ◌<◌, length};
 ghost use Rattle.model.specs.NetworkFile.{lowest_from, odd_wire, net_of};

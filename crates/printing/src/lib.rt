@@ -1,3 +1,5 @@
+#![tactic(auto)]
+
 // What the run program prints, written into a lent buffer from a place on. Every function answers the place behind its text; where the buffer is full, it stays as it is.
 ghost use Rattle.std.specs.Prelude.{◌≡◌, [], ◌∷◌, ◌<◌, ◌^◌, drop};
 ghost use Rattle.std.specs.Int.Signed.{mag};

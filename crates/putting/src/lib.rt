@@ -1,3 +1,5 @@
+#![tactic(auto)]
+
 // What a rule's actions leave: the results put on the box's output wires, and the new values of its variables, in place on the lent state.
 ghost use Rattle.std.specs.Prelude.{◌≡◌, true, false, ◌+◌, ◌≤◌, ◌<◌, pos, length, get_or, drop};
 ghost use Rattle.model.specs.Network.{proc, own, vars_of};

@@ -1,3 +1,5 @@
+#![tactic(auto)]
+
 // The bytes of one wire, of one output and of one box's variables, as a part of the state that is handed on.
 ghost use Rattle.std.specs.Prelude.{◌≡◌, ◌++◌, ◌+◌, ◌*◌, ◌≤◌, ◌<◌, ◌^◌, length, get_or, drop, replicate};
 ghost use Rattle.std.specs.Int.Signed.{mag};

@@ -1,3 +1,5 @@
+#![tactic(auto)]
+
 // The body of a rule: where its parts lie, and the limits of each.
 ghost use Rattle.std.specs.Prelude.{◌≡◌, true, ◌≤◌, drop};
 ghost use Rattle.model.specs.Expressions.{expression};

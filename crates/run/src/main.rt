@@ -1,3 +1,5 @@
+#![tactic(auto)]
+
 // The run program: reads network.bin and tokens.bin, loads, runs with budget 1,000, and prints the outcome and what each output got, or the refusal.
 ghost use Rattle.std.specs.Prelude.{◌≤◌, length};
 

@@ -1,3 +1,5 @@
+#![tactic(auto)]
+
 // The text that the run program prints for two files: a load, a run with budget 1,000, the outcome and what each output got, or the refusal.
 ghost use Rattle.std.specs.Prelude.{◌≡◌, ◌≤◌, length};
 ghost use Rattle.running.specs.Texts.{refusal_of, Printed};

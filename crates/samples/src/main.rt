@@ -1,3 +1,5 @@
+#![tactic(auto)]
+
 // The networks of the examples, run. Reads rows (examples/limits.py --rows makes them): two-byte lengths of a network file and a token file, then both. Prints for each what the run program prints.
 use libc::{STDIN_FILENO, STDOUT_FILENO};
 

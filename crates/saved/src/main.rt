@@ -1,3 +1,5 @@
+#![tactic(auto)]
+
 // Loads, output files and checks of saved states. Reads rows, made from outside vectors: 0 for a load, 1 for writing outputs or 2 for a saved state; the byte that fills the lent buffer; two-byte
 // lengths of network file, token file, state and lent buffer; the bytes of the first three. Prints each answer on a line, for a lent buffer with a checksum of its bytes afterwards.
 use libc::{STDIN_FILENO, STDOUT_FILENO};

@@ -1,3 +1,5 @@
+#![tactic(auto)]
+
 // The shape of a box: the types of its wires and variables, laid out for the check of its rules.
 ghost use Rattle.std.specs.Prelude.{◌≡◌, ◌+◌, ◌*◌, ◌≤◌, ◌<◌, length, get_or};
 ghost use Rattle.model.specs.Expressions.{type_at};

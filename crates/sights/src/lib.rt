@@ -1,3 +1,5 @@
+#![tactic(auto)]
+
 // What of a lent state a process looks at, by its own ports: the bytes of a wire and of a process, and what a box sees.
 ghost use Rattle.std.specs.Prelude.{◌≡◌, ◌+◌, ◌≤◌, ◌<◌, length, get_or};
 ghost use Rattle.model.specs.Network.{wire, proc, queue, own, vars_of};

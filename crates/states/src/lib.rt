@@ -1,3 +1,5 @@
+#![tactic(auto)]
+
 // A whole state in lent bytes: the load, and the check of a saved one.
 ghost use Rattle.std.specs.Prelude.{◌≡◌, not, ◌||◌, [], ◌++◌, ◌+◌, ◌*◌, ◌≤◌, ◌<◌, length, get_or, drop, leb};
 ghost use Rattle.model.specs.Bytes.{two_at};

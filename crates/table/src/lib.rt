@@ -1,3 +1,5 @@
+#![tactic(auto)]
+
 // The table of the offsets of a network file's fields, and the counts beside it.
 ghost use Rattle.std.specs.Prelude.{◌≤◌, ◌<◌, length};
 ghost use Rattle.table.specs.Table.{Within, Room, Noted};

@@ -1,3 +1,5 @@
+#![tactic(auto)]
+
 // The part of a firing that takes tokens from wires, and the whole firing of an input and of an output, in place on the lent state.
 ghost use Rattle.std.specs.Prelude.{not, eqb, length, get_or};
 ghost use Rattle.model.specs.NetworkFile.{box_at};

@@ -1,3 +1,5 @@
+#![tactic(auto)]
+
 // The token file of a network: its check, and the tokens of each input in it.
 ghost use Rattle.std.specs.Prelude.{◌≡◌, [], ◌+◌, ◌≤◌, ◌<◌, ◌^◌, length, get_or};
 ghost use Rattle.std.specs.Int.Signed.{mag};

@@ -1,3 +1,5 @@
+#![tactic(auto)]
+
 // What a token file's field, a wire's part, an output's part and a box's variables must hold, and what a load and the output file write there.
 ghost use Rattle.std.specs.Prelude.{◌≡◌, ◌∷◌, ◌++◌, ◌+◌, ◌*◌, ◌≤◌, length, get_or, drop};
 ghost use Rattle.model.specs.Bytes.{two_at, two_bytes};

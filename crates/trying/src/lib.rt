@@ -1,3 +1,5 @@
+#![tactic(auto)]
+
 // A box's rules tried in the file's order against what the box sees.
 ghost use Rattle.std.specs.Prelude.{◌≡◌, ◌+◌, ◌≤◌, ◌<◌, length, get_or};
 ghost use Rattle.model.specs.Bytes.{value_at};

@@ -1,3 +1,5 @@
+#![tactic(auto)]
+
 // The type of an expression, worked out from its operands.
 ghost use Rattle.std.specs.Prelude.{◌≡◌, true, cond, ◌&&◌, ◌+◌, ◌-◌, ◌*◌, ◌≤◌, eqb, ltb, length, get_or, drop};
 ghost use Rattle.model.specs.Values.{is_bool, is_number, same_type, no_type};

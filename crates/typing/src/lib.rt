@@ -1,3 +1,5 @@
+#![tactic(auto)]
+
 // The limits and the types of a rule's body, and what is wrong with a rule.
 ghost use Rattle.std.specs.Prelude.{◌≡◌, true, false, ◌+◌, ◌*◌, ◌≤◌, ◌<◌, length, get_or, drop};
 ghost use Rattle.model.specs.Bytes.{value_at};

@@ -1,3 +1,5 @@
+#![tactic(auto)]
+
 // Types and their values: wrapping, tests on types, the operators.
 ghost use Rattle.std.specs.Prelude.{◌≡◌, ◌^◌, ◌-◌, ◌≤◌, ◌<◌, pos};
 ghost use Rattle.std.specs.Int.Signed.{mag};
