@@ -15,14 +15,14 @@ use evaluation::Evaluated;
 use model::{Outcome, Token};
 
 // What an action sends.
-#[derive(Drop)]
+#[derive(Clone, Copy)]
 pub enum Sending {
     Nothing,
     Token { token: Token },
 }
 
 // No fault, or the number of one.
-#[derive(Drop)]
+#[derive(Clone, Copy)]
 pub enum Faults {
     Clear,
     Fault { number: u8 },

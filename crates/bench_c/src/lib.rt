@@ -15,7 +15,7 @@ use model::{
 use table::Counts;
 
 // An answer in numbers: its word, a refusal's number and place, the cycles done, and a size or a set.
-#[derive(Drop)]
+#[derive(Clone, Copy)]
 pub struct Numbers {
     pub word: u64,
     pub number: u64,

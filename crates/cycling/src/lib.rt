@@ -16,7 +16,7 @@ use model::{CycleAnswer, Ending, MarkAnswer, ProcessId, Refusal, RuleId, RunAnsw
 use table::Counts;
 
 // What one pass of a run comes to: it ends there, or a cycle was done.
-#[derive(Drop)]
+#[derive(Clone, Copy)]
 pub enum Pass {
     Stop { ending: Ending },
     Go,

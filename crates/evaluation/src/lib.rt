@@ -12,7 +12,7 @@ ghost use Rattle.evaluation.specs.Envs.{env_in, EnvFits, outcome_at, valued_at, 
 use model::{Outcome, Ty};
 
 // A value with its type and the offset after the expression, or a fault with its number.
-#[derive(Drop)]
+#[derive(Clone, Copy)]
 pub enum Evaluated {
     Value { ty: Ty, value: i64, next: usize },
     Fault { number: u8 },

@@ -10,7 +10,7 @@ ghost use Rattle.expressions.specs.Reading.{end_from, is_read, skip_to, precise_
 use model::Ty;
 
 // The bytes that an expression takes, or a fault of form.
-#[derive(Drop)]
+#[derive(Clone, Copy)]
 pub enum Form {
     Bytes(usize),
     Malformed,

@@ -12,7 +12,7 @@ use table::Counts;
 use typing::RuleFault;
 
 // What a check of the fields finds: how many there are, the table filled; or a refusal.
-#[derive(Drop)]
+#[derive(Clone, Copy)]
 pub enum Checked {
     Good(Counts),
     Bad { number: u8, place: usize },

@@ -14,7 +14,7 @@ use table::Counts;
 use trying::Tried;
 
 // The set so far, or the number of a fault.
-#[derive(Drop)]
+#[derive(Clone, Copy)]
 pub enum Step {
     Go { set: u64 },
     Fault { number: u8 },

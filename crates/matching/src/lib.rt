@@ -28,7 +28,7 @@ pub fn pattern_ready(b: &[u8], at: usize, tag: u8, value: i64) -> bool
 }
 
 // Whether every output that is written is open, and where the actions end.
-#[derive(Drop)]
+#[derive(Clone, Copy)]
 pub enum Outs {
     Open { next: usize },
     Shut,

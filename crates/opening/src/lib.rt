@@ -11,7 +11,7 @@ use table::Counts;
 use token_file::Tokens;
 
 // What is found: the counts of the filled table and the state's size, or a refusal.
-#[derive(Drop)]
+#[derive(Clone, Copy)]
 pub enum Opened {
     Good { counts: Counts, size: usize },
     Refused { refusal: Refusal },

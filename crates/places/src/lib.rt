@@ -50,7 +50,7 @@ pub fn places(net: &[u8], table: &[u16], c: Counts, starts: &mut [u16]) -> usize
 }
 
 // The bytes of a segment in a state: from start up to end.
-#[derive(Drop)]
+#[derive(Clone, Copy)]
 pub struct Span {
     pub start: usize,
     pub end: usize,

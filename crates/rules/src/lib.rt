@@ -11,7 +11,7 @@ use expressions::Form;
 use shapes::Arity;
 
 // Where a rule's variable patterns, its guard, its output actions and its variable actions begin.
-#[derive(Drop)]
+#[derive(Clone, Copy)]
 pub struct Parts {
     pub vars: usize,
     pub guard: usize,
@@ -20,7 +20,7 @@ pub struct Parts {
 }
 
 // The parts of a whole body, or a fault of form.
-#[derive(Drop)]
+#[derive(Clone, Copy)]
 pub enum Layout {
     Whole { parts: Parts },
     Malformed,

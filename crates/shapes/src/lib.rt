@@ -10,7 +10,7 @@ ghost use Rattle.shapes.specs.Shapes.{Lays, type_in, wires_in, shape_in, BodyFit
 use model::Ty;
 
 // How many inputs, outputs and variables a box has.
-#[derive(Drop)]
+#[derive(Clone, Copy)]
 pub struct Arity {
     pub ins: usize,
     pub outs: usize,

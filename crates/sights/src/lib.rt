@@ -15,7 +15,7 @@ use table::Counts;
 
 // What a box sees: of each input the oldest token's tag (4 where none waits) and value, the values of its variables from 4 on,
 // of each output whether its wire is full (1).
-#[derive(Drop)]
+#[derive(Clone, Copy)]
 pub struct View {
     pub heads: [u8; 4],
     pub full: [u8; 4],

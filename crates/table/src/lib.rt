@@ -5,7 +5,7 @@ ghost use Rattle.std.specs.Prelude.{◌≤◌, ◌<◌, length};
 ghost use Rattle.table.specs.Table.{Within, Room, Noted};
 
 // How many fields of each kind were seen, the rules of the last box, and the last tag, 2 for a rule.
-#[derive(Drop)]
+#[derive(Clone, Copy)]
 pub struct Counts {
     pub wires: usize,
     pub boxes: usize,

@@ -17,7 +17,7 @@ use model::{Field, ProcessId, Token, Ty};
 use table::Counts;
 
 // What the check of a token file finds: all good, or a field that is missing, bad or one too many, at a place.
-#[derive(Drop)]
+#[derive(Clone, Copy)]
 pub enum Tokens {
     Good,
     Bad { place: usize },

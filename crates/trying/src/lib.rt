@@ -21,7 +21,7 @@ use shapes::Arity;
 use table::Counts;
 
 // What comes of a rule whose patterns are ready.
-#[derive(Drop)]
+#[derive(Clone, Copy)]
 pub enum Judgement {
     Quiet,
     Fires,
@@ -29,7 +29,7 @@ pub enum Judgement {
 }
 
 // What trying a box's rules finds: none fires, the first that does, or a fault with its number.
-#[derive(Drop)]
+#[derive(Clone, Copy)]
 pub enum Tried {
     Quiet,
     Fires { rule: RuleId },

@@ -10,7 +10,7 @@ ghost use Rattle.types.specs.Scopes.{scope_in, placed, typed_at};
 use model::Ty;
 
 // A type and the offset after the expression, or the offset of what fails.
-#[derive(Drop)]
+#[derive(Clone, Copy)]
 pub enum Typing {
     Typed { ty: Ty, next: usize },
     Ill { at: usize },

@@ -21,14 +21,14 @@ use shapes::Arity;
 use types::Typing;
 
 // All fits, or the offset of what does not.
-#[derive(Drop)]
+#[derive(Clone, Copy)]
 pub enum Fitting {
     Fits,
     Fails { at: usize },
 }
 
 // Nothing wrong with a rule, or the number of its fault and the offset in its body.
-#[derive(Drop)]
+#[derive(Clone, Copy)]
 pub enum RuleFault {
     Sound,
     Faulty { number: u8, at: usize },

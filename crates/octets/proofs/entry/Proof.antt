@@ -11,7 +11,7 @@ mul-result c = search rules
 shared-slice-read-result : tie.Need-shared-slice-read-result
 shared-slice-read-result c = search rules
 
-cast-result : tie.Need-overflow-cast-result
+cast-result : tie.Need-overflow_cast-result
 cast-result c = omega (arith, c.shared-slice-known.given c.before.before.args.i)
 
 returns : tie.Need-returns

@@ -14,7 +14,7 @@ sub-if2 c = search rules
 returns-2 : tie.Need-returns-2
 returns-2 c = sym (field_short _ _ (omega arith))
 
-add_start : tie.Need-overflow-add-start
+add_start : tie.Need-overflow_add-start
 add_start c = search rules
 
 add-two-at : tie.Need-overflow-add-two-at

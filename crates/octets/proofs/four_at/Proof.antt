@@ -8,19 +8,19 @@ use Rattle.octets.proofs.four_at.Tie as tie
 returns : tie.Need-returns
 returns c = (sym (four_past _ _ (omega arith)), omega arith)
 
-two-at-requires : tie.Need-two-at-requires
+two-at-requires : tie.Need-two_at-requires
 two-at-requires c κs = search rules
 
-mul-result : tie.Need-overflow-mul-result
+mul-result : tie.Need-overflow_mul-result
 mul-result c = search rules
 
 add-two-at : tie.Need-overflow-add-two-at
 add-two-at c = search rules
 
-two-at-requires-2 : tie.Need-two-at-requires-2
+two-at-requires-2 : tie.Need-two_at-requires-2
 two-at-requires-2 c κs = search rules
 
-add-result : tie.Need-overflow-add-result
+add-result : tie.Need-overflow_add-result
 add-result c = search rules
 
 returns-2 : tie.Need-returns-2

@@ -6,25 +6,25 @@ use borrow.Author.Rules.{rules}
 use Rattle.octets.proofs.put_four.Statement.{statement}
 use Rattle.octets.proofs.put_four.Tie as tie
 
-cast-s : tie.Need-overflow-cast-s
+cast-s : tie.Need-overflow_cast-s
 cast-s c = search rules
 
 slice-write-s : tie.Need-slice-write-s
 slice-write-s c = search rules
 
-cast-s-2 : tie.Need-overflow-cast-s-2
+cast-s-2 : tie.Need-overflow_cast-s-2
 cast-s-2 c = search rules
 
 slice-write-s-2 : tie.Need-slice-write-s-2
 slice-write-s-2 c = simp length-set (omega arith)
 
-cast-s-3 : tie.Need-overflow-cast-s-3
+cast-s-3 : tie.Need-overflow_cast-s-3
 cast-s-3 c = search rules
 
 slice-write-s-3 : tie.Need-slice-write-s-3
 slice-write-s-3 c = simp length-set (omega arith)
 
-cast-s-4 : tie.Need-overflow-cast-s-4
+cast-s-4 : tie.Need-overflow_cast-s-4
 cast-s-4 c = search rules
 
 slice-write-s-4 : tie.Need-slice-write-s-4

@@ -5,13 +5,13 @@ use borrow.Author.Rules.{rules}
 use Rattle.octets.proofs.put_two.Statement.{statement}
 use Rattle.octets.proofs.put_two.Tie as tie
 
-cast-s : tie.Need-overflow-cast-s
+cast-s : tie.Need-overflow_cast-s
 cast-s c = search rules
 
 slice-write-s : tie.Need-slice-write-s
 slice-write-s c = search rules
 
-cast-s-2 : tie.Need-overflow-cast-s-2
+cast-s-2 : tie.Need-overflow_cast-s-2
 cast-s-2 c = search rules
 
 slice-write-s-2 : tie.Need-slice-write-s-2

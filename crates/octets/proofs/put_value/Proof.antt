@@ -6,7 +6,7 @@ use Rattle.octets.proofs.put_value.Tie as tie
 pattern-requires : tie.Need-pattern-requires
 pattern-requires c κs = search rules
 
-put-four-requires : tie.Need-put-four-requires
+put-four-requires : tie.Need-put_four-requires
 put-four-requires c κs = search rules
 
 same_length : tie.Need-same-length

@@ -7,16 +7,16 @@ use Rattle.octets.proofs.value_at.Tie as tie
 four-at-requires : tie.Need-four-at-requires
 four-at-requires c κs = search rules
 
-cast-result : tie.Need-overflow-cast-result
+cast-result : tie.Need-overflow_cast-result
 cast-result c = search rules
 
 returns : tie.Need-returns
 returns c = value_low _ _ _ c.before.four_at_lem.ensures.0 (omega arith)
 
-cast-result-2 : tie.Need-overflow-cast-result-2
+cast-result-2 : tie.Need-overflow_cast-result-2
 cast-result-2 c = search rules
 
-sub-result : tie.Need-overflow-sub-result
+sub-result : tie.Need-overflow_sub-result
 sub-result c = less_fits c.before.four_at_lem.result (omega arith)
 
 returns-2 : tie.Need-returns-2
