@@ -1,0 +1,42 @@
+use native.Mathlib.Omega.{arith}
+use borrow.Author.Rules.{rules}
+use Rattle.network.proofs.Bodies.{no_box, no_rule_lem}
+use Rattle.bench_c.proofs.Places.{stands, few_rules, known_at}
+use Rattle.bench_c.proofs.body_in.Goals as goal
+
+pub returns-then-long-b : goal.returns-then-long-b
+returns-then-long-b c =
+    let g = c.before.before in
+    let start = g.before.before.before in
+    let a = start.args in
+    stands c.stretch.ensures (no_box a.net.now a.table.now a.c start.requires a.b a.r (omega (arith, c.if-long-b.true, g.long.ensures)))
+
+pub returns-then-long-r : goal.returns-then-long-r
+returns-then-long-r c =
+    let e = c.before.before.before.before in
+    let start = e.before.before.before.before in
+    let a = start.args in
+    stands c.stretch-then-long-r.ensures
+    (no_rule_lem a.net.now a.table.now a.c start.requires a.b a.r (omega (arith, e.if-long-b.false, e.long.ensures))
+    (omega (arith, c.if-long-r.true, c.long-2.ensures, c.rules_of-rules.ensures)))
+
+-- a rule's number fits a byte
+pub overflow_cast-r : goal.overflow_cast-r
+overflow_cast-r c =
+    let k = c.before in
+    let e = k.before.before in
+    let start = e.before.before.before.before in
+    let a = start.args in
+    omega (arith, few_rules a.net.now a.table.now a.c start.requires a.b (omega (arith, e.if-long-b.false, e.long.ensures)), c.if-long-r.false, k.long-2.ensures, k.rules_of-rules.ensures)
+
+pub returns : goal.returns
+returns c =
+    let w = c.before in
+    let i = w.before.before in
+    let k = i.before in
+    let e = k.before.before in
+    let start = e.before.before.before.before in
+    let a = start.args in
+    stands c.stretch-2.ensures
+    (known_at a.net.now a.table.now a.c start.requires a.b (omega (arith, e.if-long-b.false, e.long.ensures)) a.r _ _
+    (omega (arith, i.if-long-r.false, k.long-2.ensures, k.rules_of-rules.ensures)) w.rule_at-at.ensures.0 w.two_at.ensures.0)

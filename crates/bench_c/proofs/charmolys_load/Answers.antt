@@ -1,0 +1,8 @@
+use Rattle.bench_c.proofs.Laying.{heard-after}
+use Rattle.bench_c.proofs.charmolys_load.Goals as goal
+
+pub returns : goal.returns
+returns c =
+    let l = c.before.before in
+    let k = l.before.before in
+    heard-after _ _ _ _ l.lay.ensures _ _ k.of_load.ensures k.load.ensures

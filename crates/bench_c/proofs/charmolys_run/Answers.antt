@@ -1,0 +1,12 @@
+use mathlib.Core.Path.{ap, ◌∙◌}
+use Rattle.bench_c.proofs.Laying.{heard-after, run_clipped}
+use Rattle.model.specs.Calls.{run_call}
+use Rattle.bench_c.proofs.charmolys_run.Goals as goal
+
+pub returns : goal.returns
+returns c =
+    let l = c.before.before in
+    let k = l.before.before in
+    let r = k.before.before.before in
+    let b = r.before.before in
+    heard-after _ _ _ _ l.lay.ensures _ _ k.of_run.ensures (r.run.ensures.0 ∙ ap (run_call _ _ _) b.clip-b.ensures ∙ run_clipped _ _ _ _)

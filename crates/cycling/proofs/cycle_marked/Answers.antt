@@ -1,0 +1,25 @@
+use Rattle.cycling.proofs.Midway.{is_not, is_so}
+use Rattle.cycling.proofs.Rounds.{order_bad, in_order, cycle-idle, cycle_done}
+use Rattle.cycling.proofs.cycle_marked.Goals as goal
+
+pub returns-then-not-order_fits : goal.returns-then-not-order_fits
+returns-then-not-order_fits c = c.requires in order_bad _ _ _ _ _ _ q.0 _ _ _ q.1.1 (is_not _ _ c.order_fits.ensures c.if-not-order_fits.true)
+
+pub returns-then-set-eq0 : goal.returns-then-set-eq0
+returns-then-set-eq0 c =
+    let q = c.requires in
+    cycle-idle _ _ _ _ _ _ q.standing _ _ _ q.told (is_so _ _ c.order_fits.ensures c.if-not-order_fits.false) c.if-set-eq0.true
+
+pub fire_order-requires : goal.fire_order-requires
+fire_order-requires c =
+    let tested = c.before.before in
+    let q = tested.requires in
+    record { standing = q.standing; fields = q.fields; noted = q.told.noted; order = in_order _ _ _ _ _ _ q.standing _ _ _ q.told (is_so _ _ tested.order_fits.ensures tested.if-not-order_fits.false) }
+
+pub returns : goal.returns
+returns c =
+    let fired = c.before.before in
+    let marked = fired.before.before in
+    let tested = marked.before in
+    let q = tested.requires in
+    cycle_done _ _ _ _ _ _ q.standing _ _ _ q.told (is_so _ _ tested.order_fits.ensures tested.if-not-order_fits.false) marked.if-set-eq0.false _ fired.fire_order.ensures

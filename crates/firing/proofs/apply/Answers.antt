@@ -1,0 +1,33 @@
+use Rattle.firing.specs.Firing.{sets_from}
+use Rattle.firing.proofs.Doing.{places, vars_now, keeps, done}
+use Rattle.firing.proofs.apply.Goals as goal
+
+pub put_sent-next-requires : goal.put_sent-next-requires
+put_sent-next-requires c =
+    let took = c.before.before.before in
+    let start = took.before.before.before.before.before.before.before.before in
+    let x = start.requires.works in
+    let e = took.take_read.ensures in
+    (e.stands, (x.read.known, (x.outs, (x.sends, (x.env, places _ _ _ _ _ _ start.requires.standing _ _ _ _ _ _ x _ e)))))
+
+pub keep_new-requires : goal.keep_new-requires
+unfolding sets_from
+keep_new-requires c =
+    let sent = c.before.before.before in
+    let took = sent.before.before.before.before in
+    let start = took.before.before.before.before.before.before.before.before in
+    let h = start.requires.standing in
+    let x = start.requires.works in
+    let e = took.take_read.ensures in
+    let f = sent.put_sent-next.ensures.1 in
+    rw sent.put_sent-next.ensures.0
+    (f.stands, (x.read.known, (vars_now _ _ _ _ _ _ h _ _ _ _ _ _ x _ e _ f, (x.sets, (x.env, keeps _ _ _ _ _ _ h _ _ _ _ _ _ x _ e _ f)))))
+
+pub returns : goal.returns
+unfolding sets_from
+returns c =
+    let kept = c.before.before in
+    let sent = kept.before.before.before.before in
+    let took = sent.before.before.before.before in
+    let start = took.before.before.before.before.before.before.before.before in
+    done _ _ _ _ _ _ start.requires.standing _ _ _ _ _ _ start.requires.works _ took.take_read.ensures _ sent.put_sent-next.ensures.1 _ (rw sent.put_sent-next.ensures.0 at kept.keep_new.ensures)

@@ -1,0 +1,67 @@
+use mathlib.Core.Bool.{true}
+use mathlib.Core.List.{List}
+use Prim.Native.Nat.{ℕ, ◌-◌}
+use native.Mathlib.Omega.{arith}
+use lib.IntN.{ℤ}
+use Rattle.model.specs.declared.ProcessId.{ProcessId}
+use Rattle.model.specs.Network.{own, vars_of}
+use Rattle.types.specs.Scopes.{scope_in}
+use Rattle.table.specs.declared.Counts.{Counts}
+use Rattle.places.specs.Standing.{state_of}
+use Rattle.actions.proofs.Acting.{First, ready_there, ready_first}
+use Rattle.putting.proofs.Sent.{workable}
+use Rattle.putting.proofs.Kept.{kept_start, kept_can, kept_next, kept_last}
+use Rattle.putting.proofs.keep_new.Goals as goal
+
+-- the variables of a box
+abbrev held : List ℕ → List ℕ → Counts → List ℕ → List ℕ → ProcessId → List ℤ
+held net table c tokens state k = vars_of (own (state_of net table c tokens state) k.0)
+
+pub loop-var-init : goal.loop-var-init
+loop-var-init c =
+    let s = c.before.before.before.before.before.before in
+    let p = s.requires in
+    (omega arith, kept_start _ _ _ _ _ _ s.requires.standing _ s.requires.k_lt_boxes _ _ _ _ _ p.keeps p.ready)
+
+pub skip_action-next-requires : goal.skip_action-next-requires
+skip_action-next-requires c =
+    let a = c.args in
+    let i = c.loop-var in
+    ready_there (scope_in a.types.now) true a.body.now (a.vars - i.var) i.at (omega arith) i.invariant.1.ready
+
+-- the action of this turn
+first : (c : goal.After-skip_action-next) →
+    let a = c.args in
+    let i = c.loop-var in
+    First (scope_in a.types.now) true a.body.now (a.vars - i.var) i.at c.skip_action-next.result
+first c =
+    let a = c.args in
+    let i = c.loop-var in
+    ready_first (scope_in a.types.now) true a.body.now (a.vars - i.var) i.at (omega arith) i.invariant.1.ready _ c.skip_action-next.ensures
+
+pub keep_one-requires : goal.keep_one-requires
+keep_one-requires c =
+    let s = c.before.before.before.before.before.before.before.before.before.before in
+    let p = s.requires in
+    let i = c.loop-var in
+    let t = c.loop-var-test.true in
+    let f = first c.before in
+    record { standing = i.invariant.1.left.became.stands; j_bound = omega (arith, t, p.vars_bound.0); workable = workable f; env_fits = p.env_fits; can_keep = kept_can _ _ _ _ _ _ s.requires.standing _ s.requires.k_lt_boxes _ _ _ _ _ p.keeps p.vars_bound.1 _ _ _ _ t f i.invariant.1 }
+
+pub loop-var-preserved : goal.loop-var-preserved
+loop-var-preserved c =
+    let s = c.before.before.before.before.before.before.before.before.before.before.before.before.before in
+    let p = s.requires in
+    let i = c.loop-var in
+    let t = c.loop-var-test.true in
+    (omega arith, kept_next _ _ _ _ _ _ s.requires.standing _ s.requires.k_lt_boxes _ _ _ _ _ p.keeps p.vars_bound.1 _ _ _ _ t (first c.before.before.before.before) i.invariant.1 _ c.keep_one.ensures)
+
+pub shape_of-state : goal.shape_of-state
+shape_of-state c = c.loop-var.invariant.1.left.became.long
+
+pub returns : goal.returns
+returns c =
+    let s = c.before.before.before.before.before.before.before.before in
+    let p = s.requires in
+    let i = c.loop-var in
+    kept_last _ _ _ _ _ _ s.requires.standing _ s.requires.k_lt_boxes _ _ _ _ _ p.keeps p.vars_bound.1 _ _ _ c.loop-var-test.false i.invariant.0 i.invariant.1

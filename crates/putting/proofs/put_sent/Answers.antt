@@ -1,0 +1,61 @@
+use mathlib.Core.Bool.{false}
+use mathlib.Core.List.{List}
+use Prim.Native.Nat.{ℕ, ◌-◌}
+use native.Mathlib.Omega.{arith}
+use Rattle.model.specs.declared.ProcessId.{ProcessId}
+use Rattle.model.specs.NetworkFile.{box_at}
+use Rattle.types.specs.Scopes.{scope_in}
+use Rattle.table.specs.declared.Counts.{Counts}
+use Rattle.table.specs.Table.{index_in}
+use Rattle.actions.proofs.Acting.{First, ready_there, ready_first}
+use Rattle.putting.proofs.Sent.{sent_start, sent_places, sent_next, sent_last, workable}
+use Rattle.putting.proofs.put_sent.Goals as goal
+
+-- the output wires of a box
+abbrev wires : List ℕ → List ℕ → Counts → ProcessId → List ℕ
+wires net table c k = (box_at net (index_in table c) k.0).outs
+
+pub loop-out-init : goal.loop-out-init
+loop-out-init c =
+    let s = c.before.before.before.before.before.before in
+    let p = s.requires in
+    (omega arith, sent_start _ _ _ _ _ _ _ _ _ _ _ _ s.requires.standing p.ready p.places)
+
+pub skip_action-next-requires : goal.skip_action-next-requires
+skip_action-next-requires c =
+    let a = c.args in
+    let i = c.loop-out in
+    ready_there (scope_in a.types.now) false a.body.now (a.outs - i.out) i.at (omega arith) i.invariant.1.ready
+
+-- the action of this turn
+first : (c : goal.After-skip_action-next) →
+    let a = c.args in
+    let i = c.loop-out in
+    First (scope_in a.types.now) false a.body.now (a.outs - i.out) i.at c.skip_action-next.result
+first c =
+    let a = c.args in
+    let i = c.loop-out in
+    ready_first (scope_in a.types.now) false a.body.now (a.outs - i.out) i.at (omega arith) i.invariant.1.ready _ c.skip_action-next.ensures
+
+pub put_one-requires : goal.put_one-requires
+put_one-requires c =
+    let s = c.before.before.before.before.before.before.before.before.before.before in
+    let i = c.loop-out in
+    let f = first c.before in
+    let t = c.loop-out-test.true in
+    record { standing = i.invariant.1.left.became.stands; k_lt_boxes = s.requires.k_lt_boxes; j_in_bounds = omega (arith, s.requires.outs_value, t); workable = workable f; env_fits = s.requires.env_fits; places = sent_places _ _ _ _ _ _ _ _ _ _ _ _ s.requires.outs_value _ _ _ _ t f i.invariant.1 }
+
+pub loop-out-preserved : goal.loop-out-preserved
+loop-out-preserved c =
+    let s = c.before.before.before.before.before.before.before.before.before.before.before.before.before in
+    let i = c.loop-out in
+    let t = c.loop-out-test.true in
+    (omega arith, sent_next _ _ _ _ _ _ _ _ _ _ _ _ s.requires.outs_value _ _ _ _ t (first c.before.before.before.before) i.invariant.1 _ c.put_one.ensures)
+
+pub shape_of-state : goal.shape_of-state
+shape_of-state c = c.loop-out.invariant.1.left.became.long
+
+pub returns : goal.returns
+returns c =
+    let s = c.before.before.before.before.before.before.before.before in
+    sent_last _ _ _ _ _ _ _ _ _ _ _ _ s.requires.outs_value _ _ _ c.loop-out-test.false c.loop-out.invariant.1

@@ -1,0 +1,7 @@
+use Rattle.queues.proofs.Stores.{push_stores}
+use Rattle.queues.proofs.push.Goals as goal
+
+pub returns : goal.returns
+returns c =
+    let a = c.args in
+    push_stores a.s.now _ a.t _ c.wide-n.ensures.0 c.put_token.ensures

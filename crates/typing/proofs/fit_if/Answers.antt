@@ -1,0 +1,11 @@
+use Rattle.model.specs.Rules.{fit_if}
+use Rattle.typing.specs.Fits.{fitting_of}
+use Rattle.typing.proofs.fit_if.Goals as goal
+
+pub returns-then-ok : goal.returns-then-ok
+unfolding fitting_of fit_if
+returns-then-ok c = rw c.if-ok.true
+
+pub returns : goal.returns
+unfolding fitting_of fit_if
+returns c = rw c.if-ok.false

@@ -1,0 +1,41 @@
+use mathlib.Core.Path.{sym, ap, ◌∙◌}
+use mathlib.Core.List.{List}
+use Prim.Native.Nat.{ℕ}
+use native.Mathlib.Omega.{arith}
+use Rattle.model.specs.Expressions.{expression}
+use Rattle.expressions.specs.Reading.{limits_read}
+use Rattle.types.specs.Scopes.{scope_in}
+use Rattle.rules.proofs.Ends.{part_is}
+use Rattle.typing.specs.Fits.{fitting_of}
+use Rattle.typing.proofs.Scoping.{exp_there, part_typed, part_ill, part_inside, guard_typed, guard_ill}
+use Rattle.typing.proofs.guard_fits.Goals as goal
+
+pub slice_bounds-type_of-count : goal.slice_bounds-type_of-count
+slice_bounds-type_of-count c = omega (arith, exp_there c.args.b.now c.args.at c.requires)
+
+pub slice_bounds-type_of-start : goal.slice_bounds-type_of-start
+slice_bounds-type_of-start c = omega (arith, exp_there c.args.b.now c.args.at c.requires)
+
+pub type_of-requires : goal.type_of-requires
+type_of-requires c =
+    let s = c.before.before in
+    ap (λ (x : List ℕ). limits_read (expression x)) (part_is s.args.b.now s.args.at) ∙ s.requires
+
+pub overflow_add-result : goal.overflow_add-result
+overflow_add-result c =
+    let s = c.before.before.before.before.before.before in
+    let a = s.args in
+    record { fits = omega (arith, part_inside (scope_in a.types.now) a.b.now _ a.at (part_is a.b.now a.at) s.requires (sym c.in-Ill.is ∙ c.type_of.ensures), s.well_formed.0.0) }
+
+pub returns-in-Typed : goal.returns-in-Typed
+returns-in-Typed c =
+    let s = c.before.before.before.before.before.before.before.before in
+    let a = s.args in
+    c.fit_if.ensures
+    ∙ ap fitting_of (guard_typed a.at _ _ _ (part_typed (scope_in a.types.now) a.b.now _ a.at (part_is a.b.now a.at) s.requires (sym c.in-Typed.is ∙ c.type_of.ensures)) c.is_bool.ensures)
+
+pub returns-in-Ill : goal.returns-in-Ill
+returns-in-Ill c =
+    let s = c.before.before.before.before.before.before in
+    let a = s.args in
+    guard_ill a.at _ _ (part_ill (scope_in a.types.now) a.b.now _ a.at (part_is a.b.now a.at) s.requires (sym c.in-Ill.is ∙ c.type_of.ensures))
