@@ -3,7 +3,7 @@
 // A rule's guard and actions, each worked out from the part of the rule body where it begins.
 ghost use Rattle.std.specs.Prelude.{◌≡◌, true, ◌≤◌, ◌<◌, length, drop};
 ghost use Rattle.model.specs.Expressions.{expression, value_of};
-ghost use Rattle.model.specs.Cycles.{or_zero, result, new_var};
+ghost use Rattle.model.specs.Cycles.{or_zero, result as result_of, new_var};
 ghost use Rattle.expressions.specs.Reading.{limits_read};
 ghost use Rattle.types.specs.Scopes.{scope_in};
 ghost use Rattle.rules.specs.Bodies.{actions_from, sent_limits, limits_of};
@@ -33,7 +33,7 @@ pub fn value(b: &[u8], at: usize, vals: &[i64; 8], types: &[u8; 16]) -> Outcome
     requires b_value { limits_read (expression (drop at b.now)) ≡ true }
     requires b_value_2 { has_type (scope_in types.now) (exp_read (expression (drop at b.now))) ≡ true }
     requires env_fits { EnvFits vals.now types.now }
-    ensures* { λ r. ⌜ r ≡ value_of (env_in vals.now types.now) (exp_read (expression (drop at b.now))) ⌝ }
+    ensures { result ≡ value_of (env_in vals.now types.now) (exp_read (expression (drop at b.now))) }
 {
     match evaluation::value_of(&b[at..], vals, types) {
         Evaluated::Value { ty, value, next: _ } => Outcome::Value { ty, value },
@@ -46,7 +46,7 @@ fn number(b: &[u8], at: usize, vals: &[i64; 8], types: &[u8; 16]) -> i64
     requires b_value { limits_read (expression (drop at b.now)) ≡ true }
     requires b_value_2 { has_type (scope_in types.now) (exp_read (expression (drop at b.now))) ≡ true }
     requires env_fits { EnvFits vals.now types.now }
-    ensures* { λ r. ⌜ r ≡ or_zero (value_of (env_in vals.now types.now) (exp_read (expression (drop at b.now)))) ⌝ }
+    ensures { result ≡ or_zero (value_of (env_in vals.now types.now) (exp_read (expression (drop at b.now)))) }
 {
     match value(b, at, vals, types) {
         Outcome::Value { ty: _, value: z } => z,
@@ -60,7 +60,7 @@ pub fn sent(b: &[u8], at: usize, vals: &[i64; 8], types: &[u8; 16]) -> Sending
     requires b_value { sent_limits (drop at b.now) ≡ true }
     requires b_value_2 { sent_typed (scope_in types.now) (action_at (drop at b.now)) ≡ true }
     requires env_fits { EnvFits vals.now types.now }
-    ensures* { λ r. ⌜ r ≡ sent_as (result (env_in vals.now types.now) (action_at (drop at b.now))) ⌝ }
+    ensures { result ≡ sent_as (result_of (env_in vals.now types.now) (action_at (drop at b.now))) }
 {
     let c = octets::byte_at(b, at);
     if c == 0 {
@@ -92,7 +92,7 @@ pub fn kept_value(b: &[u8], at: usize, old: i64, vals: &[i64; 8], types: &[u8; 1
     requires b_value { sent_limits (drop at b.now) ≡ true }
     requires b_value_2 { sent_typed (scope_in types.now) (action_at (drop at b.now)) ≡ true }
     requires env_fits { EnvFits vals.now types.now }
-    ensures* { λ r. ⌜ r ≡ new_var (env_in vals.now types.now) old (action_at (drop at b.now)) ⌝ }
+    ensures { result ≡ new_var (env_in vals.now types.now) old (action_at (drop at b.now)) }
 {
     let c = octets::byte_at(b, at);
     if !rules::holds_expression(c) {
@@ -107,7 +107,7 @@ fn action_fault(b: &[u8], at: usize, vals: &[i64; 8], types: &[u8; 16]) -> Fault
     requires b_value { sent_limits (drop at b.now) ≡ true }
     requires b_value_2 { sent_typed (scope_in types.now) (action_at (drop at b.now)) ≡ true }
     requires env_fits { EnvFits vals.now types.now }
-    ensures* { λ r. ⌜ r ≡ fault_of (env_in vals.now types.now) (action_at (drop at b.now)) ⌝ }
+    ensures { result ≡ fault_of (env_in vals.now types.now) (action_at (drop at b.now)) }
 {
     let c = octets::byte_at(b, at);
     if !rules::holds_expression(c) {
@@ -132,7 +132,7 @@ pub fn actions_fault(
     requires b_value { limits_of (actions_from var n from b.now) ≡ true }
     requires b_value_2 { all_typed (scope_in types.now) (list_read (actions_from var n from b.now)) ≡ true }
     requires env_fits { EnvFits vals.now types.now }
-    ensures* { λ r. ⌜ r ≡ faults_of (env_in vals.now types.now) (list_read (actions_from var n from b.now)) ⌝ }
+    ensures { result ≡ faults_of (env_in vals.now types.now) (list_read (actions_from var n from b.now)) }
 {
     let mut at = from;
     let mut k = 0;

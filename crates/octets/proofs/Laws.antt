@@ -84,7 +84,7 @@ mod_signed n h = go (ltb n 2147483648) refl
 
 -- a local of a signed type, as its bits are read
 pub back : {z : ℤ} → mag z < 9223372036854775808 → to_z w64 (of_z w64 z) ≡ z
-back h = to_z-of_z (record { sfits = h })
+back h = to_z-of_z {w = w64} (record { sfits = h })
 
 -- a value below zero, 2^32 further on
 pub lifted : (z : ℤ) → mag z < 2147483648 → lt_z (to_z w64 (of_z w64 z)) (pos 0) ≡ true → to_z w64 (of_z w64 z) +ℤ pos 4294967296 ≡ pos (mod_z z 4294967296)

@@ -29,7 +29,7 @@ shl_one p h = shl_exact {a = 1} 1 p 64 (lit< tt) (omega arith) ∙ omega arith
 -- ── a signed local, back from its bits ───────────────────────────────────────────────────────
 
 pub back : {z : ℤ} → mag z < 2 ^ 63 → to_z w64 (of_z w64 z) ≡ z
-back h = to_z-of_z (record { sfits = h })
+back h = to_z-of_z {w = w64} (record { sfits = h })
 
 pub pos_is : {z : ℤ} {n : ℕ} → z ≡ pos n → n < 2 ^ 63 → to_z w64 (of_z w64 z) ≡ pos n
 pos_is {z} {n} e h = rw (e, to_z_pos w64 h) refl
@@ -110,7 +110,7 @@ module _ (p : ℕ) (x : ℤ) {r : ℤ} (hx : SFits w64 x) (hp : p ≤ 62) (e : r
   rem_need = (rw e (pow_pos p), rw (to_z-of_z hx, pow_is p hp e) (record { sfits = quot_small x hx.sfits }))
 
   pub rem_is : to_z w64 (of_z w64 (rem_z (to_z w64 (of_z w64 x)) (to_z w64 (of_z w64 r)))) ≡ rem_z x (pos (2 ^ p))
-  rem_is = rw (to_z-of_z hx, pow_is p hp e) (to_z-of_z (record { sfits = omega (arith, mag_rem x (pos (2 ^ p)), hx.sfits) }))
+  rem_is = rw (to_z-of_z hx, pow_is p hp e) (to_z-of_z {w = w64} (record { sfits = omega (arith, mag_rem x (pos (2 ^ p)), hx.sfits) }))
 
   pub mod_small : mod_z x (2 ^ p) < 2 ^ 63
   mod_small = omega (arith, mod_z_lt x (2 ^ p) (pow_pos p), pow_62 hp)

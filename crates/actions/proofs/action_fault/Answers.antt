@@ -14,7 +14,7 @@ returns-then-not-holds_expression c =
 
 pub value-requires : goal.value-requires
 value-requires c =
-    let s = c.before.before.before.before in
+    let s = c in
     let a = s.args in
     let h = c.byte_at-c.ensures in
     let e = sym c.holds_expression.ensures ∙ not-false c.holds_expression.result c.if-not-holds_expression.false in

@@ -9,7 +9,7 @@ use Rattle.actions.proofs.actions_fault.Goals as goal
 
 pub loop-k-init : goal.loop-k-init
 loop-k-init c =
-    let s = c.before in
+    let s = c in
     let a = s.args in
     let z = sym (minus_zero a.n) in
     (omega arith, (subst (λ (j : ℕ). Ready (scope_in a.types.now) a.var a.b.now j a.from) z (record { limits = s.requires.b_value; typed = s.requires.b_value_2 }), ap (λ (j : ℕ). faults_from (env_in a.vals.now a.types.now) a.var a.b.now j a.from) (sym z)))
@@ -31,7 +31,7 @@ first c =
     ready_first (scope_in a.types.now) a.var a.b.now (a.n - i.k) i.at (omega arith) i.invariant.1.0 _ c.skip_action-next.ensures
 
 pub action_fault-f-requires : goal.action_fault-f-requires
-action_fault-f-requires c = first c in (f.inside, (f.limits, (f.typed, c.requires.env_fits)))
+action_fault-f-requires c = let f = first c in record { at_in_bounds = f.inside; b_value = f.limits; b_value_2 = f.typed; env_fits = c.requires.env_fits }
 
 pub returns-in_default : goal.returns-in_default
 returns-in_default c =

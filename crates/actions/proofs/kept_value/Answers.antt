@@ -9,14 +9,14 @@ use Rattle.actions.proofs.kept_value.Goals as goal
 
 pub returns-then-not-holds_expression : goal.returns-then-not-holds_expression
 returns-then-not-holds_expression c =
-    let s = c.before.before.before.before in
+    let s = c in
     let a = s.args in
     let e = sym c.holds_expression.ensures ∙ not-true c.holds_expression.result c.if-not-holds_expression.true in
     to_z-of_z s.ranges.old ∙ keeps_old a.b.now a.at _ c.byte_at-c.ensures (env_in a.vals.now a.types.now) a.old e
 
 pub number-requires : goal.number-requires
 number-requires c =
-    let s = c.before.before.before.before in
+    let s = c in
     let a = s.args in
     let h = c.byte_at-c.ensures in
     let e = sym c.holds_expression.ensures ∙ not-false c.holds_expression.result c.if-not-holds_expression.false in

@@ -13,11 +13,11 @@ returns-then-c-eq0 c =
 
 pub number-z-requires : goal.number-z-requires
 number-z-requires c =
-    let s = c.before.before.before.before in
+    let s = c in
     let a = s.args in
     let h = c.byte_at-c.ensures in
     let e = (holds_one _ c.if-c-eq1.true).0 in
-    (held_limits a.b.now a.at _ h e s.requires.b_value, (held_typed a.b.now a.at _ h e (scope_in a.types.now) s.requires.b_value_2, s.requires.env_fits))
+    record { b_value = held_limits a.b.now a.at _ h e s.requires.b_value; b_value_2 = held_typed a.b.now a.at _ h e (scope_in a.types.now) s.requires.b_value_2; env_fits = s.requires.env_fits }
 
 pub returns-then-c-eq1 : goal.returns-then-c-eq1
 returns-then-c-eq1 c =
@@ -27,11 +27,11 @@ returns-then-c-eq1 c =
 
 pub number-z-requires-then-c-eq5 : goal.number-z-requires-then-c-eq5
 number-z-requires-then-c-eq5 c =
-    let s = c.before.before.before.before.before in
+    let s = c in
     let a = s.args in
     let h = c.byte_at-c.ensures in
     let e = (holds_five _ c.if-c-eq5.true).0 in
-    (held_limits a.b.now a.at _ h e s.requires.b_value, (held_typed a.b.now a.at _ h e (scope_in a.types.now) s.requires.b_value_2, s.requires.env_fits))
+    record { b_value = held_limits a.b.now a.at _ h e s.requires.b_value; b_value_2 = held_typed a.b.now a.at _ h e (scope_in a.types.now) s.requires.b_value_2; env_fits = s.requires.env_fits }
 
 pub returns-then-c-eq5 : goal.returns-then-c-eq5
 returns-then-c-eq5 c =

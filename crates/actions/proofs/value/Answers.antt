@@ -17,7 +17,7 @@ slice_bounds-value_of-start c = omega (arith, exp_there c.args.b.now c.args.at c
 
 pub value_of-requires : goal.value_of-requires
 value_of-requires c =
-    let s = c.before.before in
+    let s = c in
     let a = s.args in
     let d = part_is a.b.now a.at in
     record { s_value = part_limits a.b.now _ a.at d s.requires.b_value; s_value_2 = part_typed a.b.now _ a.at d s.requires.b_value (scope_in a.types.now) s.requires.b_value_2; env_fits = s.requires.env_fits }
@@ -25,7 +25,7 @@ value_of-requires c =
 pub returns-in-Value : goal.returns-in-Value
 unfolding outcome_of
 returns-in-Value c =
-    let s = c.before.before.before.before.before.before in
+    let s = c in
     let a = s.args in
     ap (Value c.in-Value.ty) (back {z = c.in-Value.value} (omega arith))
     ∙ part_value a.b.now _ a.at (part_is a.b.now a.at) s.requires.b_value (env_in a.vals.now a.types.now) (sym c.in-Value.is ∙ c.value_of.ensures)
@@ -33,6 +33,6 @@ returns-in-Value c =
 pub returns-in-Fault : goal.returns-in-Fault
 unfolding outcome_of
 returns-in-Fault c =
-    let s = c.before.before.before.before.before.before in
+    let s = c in
     let a = s.args in
     part_value a.b.now _ a.at (part_is a.b.now a.at) s.requires.b_value (env_in a.vals.now a.types.now) (sym c.in-Fault.is ∙ c.value_of.ensures)

@@ -4,15 +4,15 @@ use Rattle.bench.proofs.cycle.Goals as goal
 
 pub cycle_in-requires : goal.cycle_in-requires
 cycle_in-requires c =
-    let g = c.before.before.before.before.before in
+    let g = c in
     let h = whole_open _ _ _ _ _ _ _ g.open_state.ensures _ _ g.in-Good.is in
     record { standing = h.standing; fields = h.files.fields }
 
 pub returns-in-Refused : goal.returns-in-Refused
-returns-in-Refused c = c.before.before.before.before.before.before in cycle-refused _ _ _ _ _ _ _ _ _ c.in-Refused.is k.open-state.ensures
+returns-in-Refused c = let k = c in cycle-refused _ _ _ _ _ _ _ _ _ c.in-Refused.is k.open_state.ensures
 
 pub returns-in-Good : goal.returns-in-Good
 returns-in-Good c =
-    let done = c.before.before in
-    let g = done.before.before.before.before.before.before in
+    let done = c in
+    let g = done in
     cycle_open _ _ _ _ _ _ _ _ _ (whole_open _ _ _ _ _ _ _ g.open_state.ensures _ _ g.in-Good.is) _ _ done.cycle_in.ensures

@@ -4,16 +4,16 @@ use Rattle.bench.proofs.mark.Goals as goal
 
 pub mark_in-requires : goal.mark_in-requires
 mark_in-requires c =
-    let g = c.before.before.before.before in
-    let k = g.before.before.before.before.before in
+    let g = c in
+    let k = g in
     let h = whole_open _ _ _ _ _ _ _ k.open_state.ensures _ _ g.in-Good.is in
     record { standing = h.standing; fields = h.files.fields }
 
 pub returns-in-Refused : goal.returns-in-Refused
-returns-in-Refused c = c.before.before.before.before.before.before in mark-refused _ _ _ _ _ _ _ _ c.in-Refused.is k.open-state.ensures
+returns-in-Refused c = let k = c in mark-refused _ _ _ _ _ _ _ _ c.in-Refused.is k.open_state.ensures
 
 pub returns-in-Good : goal.returns-in-Good
 returns-in-Good c =
-    let g = c.before.before.before.before.before in
-    let k = g.before.before.before.before.before in
+    let g = c in
+    let k = g in
     mark_open _ _ _ _ _ _ _ _ (whole_open _ _ _ _ _ _ _ k.open_state.ensures _ _ g.in-Good.is) c.mark_in.ensures

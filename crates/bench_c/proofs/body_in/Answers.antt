@@ -6,15 +6,15 @@ use Rattle.bench_c.proofs.body_in.Goals as goal
 
 pub returns-then-long-b : goal.returns-then-long-b
 returns-then-long-b c =
-    let g = c.before.before in
-    let start = g.before.before.before in
+    let g = c in
+    let start = g in
     let a = start.args in
     stands c.stretch.ensures (no_box a.net.now a.table.now a.c start.requires a.b a.r (omega (arith, c.if-long-b.true, g.long.ensures)))
 
 pub returns-then-long-r : goal.returns-then-long-r
 returns-then-long-r c =
-    let e = c.before.before.before.before in
-    let start = e.before.before.before.before in
+    let e = c in
+    let start = e in
     let a = start.args in
     stands c.stretch-then-long-r.ensures
     (no_rule_lem a.net.now a.table.now a.c start.requires a.b a.r (omega (arith, e.if-long-b.false, e.long.ensures))
@@ -23,19 +23,19 @@ returns-then-long-r c =
 -- a rule's number fits a byte
 pub overflow_cast-r : goal.overflow_cast-r
 overflow_cast-r c =
-    let k = c.before in
-    let e = k.before.before in
-    let start = e.before.before.before.before in
+    let k = c in
+    let e = k in
+    let start = e in
     let a = start.args in
     omega (arith, few_rules a.net.now a.table.now a.c start.requires a.b (omega (arith, e.if-long-b.false, e.long.ensures)), c.if-long-r.false, k.long-2.ensures, k.rules_of-rules.ensures)
 
 pub returns : goal.returns
 returns c =
-    let w = c.before in
-    let i = w.before.before in
-    let k = i.before in
-    let e = k.before.before in
-    let start = e.before.before.before.before in
+    let w = c in
+    let i = w in
+    let k = i in
+    let e = k in
+    let start = e in
     let a = start.args in
     stands c.stretch-2.ensures
     (known_at a.net.now a.table.now a.c start.requires a.b (omega (arith, e.if-long-b.false, e.long.ensures)) a.r _ _

@@ -5,8 +5,8 @@ use Rattle.bench_c.proofs.charmolys_run.Goals as goal
 
 pub returns : goal.returns
 returns c =
-    let l = c.before.before in
-    let k = l.before.before in
-    let r = k.before.before.before in
-    let b = r.before.before in
+    let l = c in
+    let k = l in
+    let r = k in
+    let b = r in
     heard-after _ _ _ _ l.lay.ensures _ _ k.of_run.ensures (r.run.ensures.0 ∙ ap (run_call _ _ _) b.clip-b.ensures ∙ run_clipped _ _ _ _)

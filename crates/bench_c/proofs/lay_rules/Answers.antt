@@ -9,12 +9,12 @@ loop-i-init c = (omega arith, refl, refl, refl)
 pub loop-i-preserved : goal.loop-i-preserved
 loop-i-preserved c =
     let l = c.loop-i in
-    let p = c.before.before in
-    let w = p.before in
+    let p = c in
+    let w = p in
     (omega arith, refl, p.put.auto.0 ∙ l.invariant.2, laid_next _ l.i l.answer _ _ _ (omega arith) (w.wide.ensures ∙ w.byte_at.ensures) p.put.ensures l.invariant.3)
 
 pub shape_of-answer : goal.shape_of-answer
 shape_of-answer c = c.loop-i.invariant.2
 
 pub returns : goal.returns
-returns c = c.loop-i in laid_all _ l.i l.answer _ (omega arith) l.invariant.3
+returns c = let l = c.loop-i in laid_all _ l.i l.answer _ (omega arith) l.invariant.3

@@ -10,12 +10,12 @@ returns-then-not-is_marked c = rw (is_not _ _ c.is_marked.ensures c.if-not-is_ma
 
 pub fire_next-requires : goal.fire_next-requires
 fire_next-requires c =
-    let tested = c.before in
+    let tested = c in
     let q = tested.requires in
     record { standing = q.standing; fields = q.fields; rules_len = q.k_bound.1; chosen = q.chosen (is_so _ _ tested.is_marked.ensures tested.if-not-is_marked.false) }
 
 pub returns : goal.returns
 returns c =
-    let fired = c.before.before in
-    let tested = fired.before.before in
+    let fired = c in
+    let tested = fired in
     rw (is_so _ _ tested.is_marked.ensures tested.if-not-is_marked.false) fired.fire_next.ensures

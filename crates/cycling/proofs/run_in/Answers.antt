@@ -14,30 +14,30 @@ one_pass-requires c = record { standing = c.loop-ending.invariant.became.stands;
 
 pub shape_of-state-in-Stop : goal.shape_of-state-in-Stop
 shape_of-state-in-Stop c =
-    let passed = c.before.before.before.before.before in
+    let passed = c in
     let y = passed.one_pass.ensures in
     y.1.long ∙ passed.loop-ending.invariant.became.long
 
 pub returns-in-Stop : goal.returns-in-Stop
 returns-in-Stop c =
-    let passed = c.before.before.before.before.before in
+    let passed = c in
     let y = passed.one_pass.ensures in
     ran_stops _ _ _ _ _ _ _ _ _ passed.loop-ending.invariant _ refl _ _ (sym c.in-Stop.is ∙ y.0, y.1)
 
 pub overflow_add-cycles : goal.overflow_add-cycles
 overflow_add-cycles c =
-    let passed = c.before.before.before.before in
+    let passed = c in
     let y = passed.one_pass.ensures in
     omega (arith, (ran_goes _ _ _ _ _ _ _ _ _ passed.loop-ending.invariant _ refl _ (sym c.in-Go.is ∙ y.0, y.1)).0, passed.ranges.budget)
 
 pub loop-ending-smaller : goal.loop-ending-smaller
 loop-ending-smaller c =
-    let passed = c.before.before.before.before in
+    let passed = c in
     let y = passed.one_pass.ensures in
     omega (arith, (ran_goes _ _ _ _ _ _ _ _ _ passed.loop-ending.invariant _ refl _ (sym c.in-Go.is ∙ y.0, y.1)).0)
 
 pub loop-ending-preserved : goal.loop-ending-preserved
 loop-ending-preserved c =
-    let passed = c.before.before.before.before in
+    let passed = c in
     let y = passed.one_pass.ensures in
     (ran_goes _ _ _ _ _ _ _ _ _ passed.loop-ending.invariant _ refl _ (sym c.in-Go.is ∙ y.0, y.1)).1

@@ -19,14 +19,14 @@ module _ (c : goal.After-own_count-taken) where
   number = omega (arith, c.wide.ensures.0)
 
   there : i < start.args.c.inputs
-  there = omega (arith, number, start.pre.1.1.0, start.pre.1.1.1)
+  there = omega (arith, number, start.requires.boxes_le_k, start.requires.k_bound)
 
 pub input_count-requires : goal.input_count-requires
 input_count-requires c = ((start c).pre.1.0.each (i c) (there c)).inside
 
 pub returns-then-input_count-taken : goal.returns-then-input_count-taken
 returns-then-input_count-taken c =
-    let left = c.before in
+    let left = c in
     let count = left.before in
     let a = (start count).args in
     let h = (start count).pre in
@@ -34,16 +34,16 @@ returns-then-input_count-taken c =
     end_spent _ _ _ _ count.own_count-taken.result _ m count.own_count-taken.ensures (omega (arith, left.input_count.ensures, c.if-input_count-taken.true, ap (λ (ks : List Token). length ks) (h.1.0.each (i count) (there count)).holds))
 
 pub input_wire-w-requires : goal.input_wire-w-requires
-input_wire-w-requires c = (start c.before.before).pre in (h.0.tabled, h.1.1)
+input_wire-w-requires c = let h = (start c.before.before).pre in (h.0.tabled, h.1.1)
 
 pub wire_part-part-requires : goal.wire_part-part-requires
-wire_part-part-requires c = ((start c.before.before.before).pre.0, c.input_wire-w.ensures.1)
+wire_part-part-requires c = record { standing = (start c.before.before.before).pre.0; w_lt_wires = c.input_wire-w.ensures.1 }
 
 pub returns : goal.returns
 returns c =
-    let part = c.before in
-    let wire = part.before in
-    let left = wire.before.before in
+    let part = c in
+    let wire = part in
+    let left = wire in
     let count = left.before in
     let a = (start count).args in
     let h = (start count).pre in

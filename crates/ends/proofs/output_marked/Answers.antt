@@ -15,9 +15,9 @@ returns-then-room-got c =
 
 pub returns : goal.returns
 returns c =
-    let part = c.before in
-    let wire = part.before in
-    let room = wire.before.before in
+    let part = c in
+    let wire = part in
+    let room = wire in
     let count = room.before in
     let a = (start count).args in
     let h = (start count).pre in

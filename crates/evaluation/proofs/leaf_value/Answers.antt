@@ -30,16 +30,16 @@ returns-then-c-eq0 c =
 
 pub returns-then-c-eq1 : goal.returns-then-c-eq1
 returns-then-c-eq1 c =
-    let n = c.before in
-    let i = n.before.before in
+    let n = c in
+    let i = n in
     let l = i.before.before in
     let a = (start l).args in
     leaf_matched (leaf l) a.vals.now a.types.now (back c.kept-z.type-inv) i.byte_at-i.ensures n.if-c-eq1.true n.named-t.ensures c.kept-z.ensures
 
 pub returns : goal.returns
 returns c =
-    let n = c.before in
-    let i = n.before.before in
+    let n = c in
+    let i = n in
     let l = i.before.before in
     let a = (start l).args in
     leaf_variable (leaf l) a.vals.now a.types.now (back c.kept-z-2.type-inv) i.byte_at-i.ensures i.if-c-eq0.false n.if-c-eq1.false n.named-t-2.ensures c.kept-z-2.ensures

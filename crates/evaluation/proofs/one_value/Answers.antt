@@ -10,11 +10,11 @@ wrap-requires c = c.requires.le_p c.if-c-eq3.true
 
 pub returns-then-c-eq3 : goal.returns-then-c-eq3
 unfolding outcome_at
-returns-then-c-eq3 c = c.before.before in rw (back c.wrap.type-inv, c.wrap.ensures, to_z-of_z s.ranges.x, eq-eqb s.args.c 3 c.if-c-eq3.true)
+returns-then-c-eq3 c = let s = c in rw (back c.wrap.type-inv, c.wrap.ensures, to_z-of_z s.ranges.x, eq-eqb s.args.c 3 c.if-c-eq3.true)
 
 pub apply_one-requires : goal.apply_one-requires
 apply_one-requires c = c.requires.le_p_2
 
 pub returns : goal.returns
 unfolding outcome_at
-returns c = c.before.before.before in c.placed.ensures ∙ rw (c.apply_one.ensures, to_z-of_z s.ranges.x, ne_eqb s.args.c 3 c.if-c-eq3.false)
+returns c = let s = c in c.placed.ensures ∙ rw (c.apply_one.ensures, to_z-of_z s.ranges.x, ne_eqb s.args.c 3 c.if-c-eq3.false)

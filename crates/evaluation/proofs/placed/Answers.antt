@@ -9,9 +9,9 @@ use Rattle.evaluation.proofs.placed.Goals as goal
 pub returns-in-Value : goal.returns-in-Value
 unfolding outcome_at
 returns-in-Value c =
-    let s = c.before.before.before in
+    let s = c in
     ap (λ (z : ℤ). evaluated.Value c.in-Value.ty z s.args.next) (back {z = c.in-Value.value} (omega arith)) ∙ sym (ap (outcome_at s.args.next) c.in-Value.is)
 
 pub returns-in-Fault : goal.returns-in-Fault
 unfolding outcome_at
-returns-in-Fault c = c.before.before.before in sym (ap (outcome_at s.args.next) c.in-Fault.is)
+returns-in-Fault c = let s = c in sym (ap (outcome_at s.args.next) c.in-Fault.is)

@@ -8,12 +8,12 @@ use Rattle.evaluation.proofs.second_from.Goals as goal
 
 pub returns-then-k-x : goal.returns-then-k-x
 returns-then-k-x c =
-    let s = c.before.before.before in
+    let s = c in
     let e : (eqb s.args.k 3 && eq_z s.args.x (pos 0)) ≡ true = rw (zero_bits s.args.x s.ranges.x) at c.if-k-x.true in
     c.skip.ensures ∙ rw e
 
 pub returns : goal.returns
 returns c =
-    let s = c.before.before in
+    let s = c in
     let e : (eqb s.args.k 3 && eq_z s.args.x (pos 0)) ≡ false = rw (zero_bits s.args.x s.ranges.x) at c.if-k-x.false in
     rw e

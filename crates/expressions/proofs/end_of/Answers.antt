@@ -55,4 +55,4 @@ loop-pending-preserved c =
     (advance c, (omega (arith, moves c), rw (c.operands.ensures.0, c.head_size-head.ensures.0) (sym w ∙ i.invariant.1.1)))
 
 pub returns : goal.returns
-returns c = c.loop-pending in sym (done c.args.s.now i.pending i.at c.loop-pending-test.false) ∙ i.invariant.1.1
+returns c = let i = c.loop-pending in sym (done c.args.s.now i.pending i.at c.loop-pending-test.false) ∙ i.invariant.1.1

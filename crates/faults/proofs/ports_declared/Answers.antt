@@ -9,7 +9,7 @@ unfolding every
 loop-k-init c = (omega arith, refl)
 
 pub returns-then-wires-w : goal.returns-then-wires-w
-returns-then-wires-w c = c.args in ports_no a.b.now a.n a.wires c.loop-k.k (omega arith) (omega arith)
+returns-then-wires-w c = let a = c.args in ports_no a.b.now a.n a.wires c.loop-k.k (omega arith) (omega arith)
 
 pub loop-k-preserved : goal.loop-k-preserved
 loop-k-preserved c =
@@ -18,4 +18,4 @@ loop-k-preserved c =
     (omega arith, ports_more a.b.now a.wires l.k l.invariant.1 (omega arith))
 
 pub returns : goal.returns
-returns c = c.args in let l = c.loop-k in every_end a.n l.k (Declared a.b.now a.wires) l.invariant.0 (omega arith) l.invariant.1
+returns c = let a = c.args in let l = c.loop-k in every_end a.n l.k (Declared a.b.now a.wires) l.invariant.0 (omega arith) l.invariant.1

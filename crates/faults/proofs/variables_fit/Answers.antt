@@ -33,4 +33,4 @@ loop-j-preserved c =
     (omega arith, each_more a.b.now (fits_at a.b.now) l.j v.result v.ensures.0 l.invariant.1 (sym c.variable_fits.ensures ∙ not-false _ c.if-not-variable_fits.false))
 
 pub returns : goal.returns
-returns c = c.args in let l = c.loop-j in every_end a.n l.j (AtEach a.b.now (fits_at a.b.now)) l.invariant.0 (omega arith) l.invariant.1
+returns c = let a = c.args in let l = c.loop-j in every_end a.n l.j (AtEach a.b.now (fits_at a.b.now)) l.invariant.0 (omega arith) l.invariant.1

@@ -4,18 +4,18 @@ use Rattle.firing.proofs.apply.Goals as goal
 
 pub put_sent-next-requires : goal.put_sent-next-requires
 put_sent-next-requires c =
-    let took = c.before.before.before in
-    let start = took.before.before.before.before.before.before.before.before in
+    let took = c in
+    let start = took in
     let x = start.requires.works in
     let e = took.take_read.ensures in
-    (e.stands, (x.read.known, (x.outs, (x.sends, (x.env, places _ _ _ _ _ _ start.requires.standing _ _ _ _ _ _ x _ e)))))
+    record { standing = e.stands; k_lt_boxes = x.read.known; outs_value = x.outs; ready = x.sends; env_fits = x.env; places = places _ _ _ _ _ _ start.requires.standing _ _ _ _ _ _ x _ e }
 
 pub keep_new-requires : goal.keep_new-requires
 unfolding sets_from
 keep_new-requires c =
-    let sent = c.before.before.before in
-    let took = sent.before.before.before.before in
-    let start = took.before.before.before.before.before.before.before.before in
+    let sent = c in
+    let took = sent in
+    let start = took in
     let h = start.requires.standing in
     let x = start.requires.works in
     let e = took.take_read.ensures in
@@ -26,8 +26,8 @@ keep_new-requires c =
 pub returns : goal.returns
 unfolding sets_from
 returns c =
-    let kept = c.before.before in
-    let sent = kept.before.before.before.before in
-    let took = sent.before.before.before.before in
-    let start = took.before.before.before.before.before.before.before.before in
+    let kept = c in
+    let sent = kept in
+    let took = sent in
+    let start = took in
     done _ _ _ _ _ _ start.requires.standing _ _ _ _ _ _ start.requires.works _ took.take_read.ensures _ sent.put_sent-next.ensures.1 _ (rw sent.put_sent-next.ensures.0 at kept.keep_new.ensures)

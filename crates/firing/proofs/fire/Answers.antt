@@ -4,38 +4,38 @@ use Rattle.firing.proofs.fire.Goals as goal
 
 pub fire_box-requires : goal.fire_box-requires
 fire_box-requires c =
-    let wide = c.before.before.before in
+    let wide = c in
     let q = wide.requires in
     record { standing = q.standing; box_ready = as_box _ _ _ _ _ _ q.standing _ _ q.chosen (omega (arith, wide.wide-i.ensures.0, c.if-i-c.true)) }
 
 pub fire_input-requires : goal.fire_input-requires
 fire_input-requires c =
-    let first = c.before.before.before in
-    let wide = first.before.before in
+    let first = c in
+    let wide = first in
     let q = wide.requires in
     record { standing = q.standing; fields = q.fields; input_ready = as_input _ _ _ _ _ _ q.standing _ _ q.chosen (omega (arith, wide.wide-i.ensures.0, first.if-i-c.false)) (omega (arith, wide.wide-i.ensures.0, c.if-i-c-2.true)) }
 
 pub returns-then-i-c-2 : goal.returns-then-i-c-2
 returns-then-i-c-2 c =
-    let done = c.before.before in
-    let second = done.before.before in
-    let first = second.before.before in
-    let wide = first.before.before in
+    let done = c in
+    let second = done in
+    let first = second in
+    let wide = first in
     let q = wide.requires in
     input_done _ _ _ _ _ _ q.standing _ _ q.chosen (omega (arith, wide.wide-i.ensures.0, first.if-i-c.false)) (omega (arith, wide.wide-i.ensures.0, second.if-i-c-2.true)) _ done.fire_input.ensures
 
 pub fire_output-requires : goal.fire_output-requires
 fire_output-requires c =
-    let first = c.before.before.before in
-    let wide = first.before.before in
+    let first = c in
+    let wide = first in
     let q = wide.requires in
     record { standing = q.standing; output_ready = as_output _ _ _ _ _ _ q.standing _ _ q.chosen (omega (arith, wide.wide-i.ensures.0, c.if-i-c-2.false)) }
 
 pub returns : goal.returns
 returns c =
-    let done = c.before.before in
-    let second = done.before.before in
-    let first = second.before.before in
-    let wide = first.before.before in
+    let done = c in
+    let second = done in
+    let first = second in
+    let wide = first in
     let q = wide.requires in
     output_done _ _ _ _ _ _ q.standing _ _ q.chosen (omega (arith, wide.wide-i.ensures.0, second.if-i-c-2.false)) _ done.fire_output.ensures

@@ -15,62 +15,62 @@ unfolding body_at
 body_is c = c.rule_body-body.ensures.bytes
 
 pub box_at-at-requires : goal.box_at-at-requires
-box_at-at-requires c = c.requires in (q.0.tabled, q.1.known)
+box_at-at-requires c = let q = c.requires in record { tabled = q.standing.tabled; b_lt_boxes = q.box_ready.known }
 
 pub shape_of-a-requires : goal.shape_of-a-requires
 shape_of-a-requires c =
     let q = c.requires in
     let h = q.standing.tabled in
-    (omega (arith, h.within.wires, h.long), (box_ready _ _ _ h _ q.box_ready.known _ c.box_at-at.ensures.0, (omega arith, omega arith, omega arith)))
+    record { wires_in_bounds = omega (arith, h.within.wires, h.long); box_fits = box_ready _ _ _ h _ q.box_ready.known _ c.box_at-at.ensures.0; in_bounds = (omega arith, omega arith, omega arith) }
 
 pub rule_body-body-requires : goal.rule_body-body-requires
 rule_body-body-requires c =
     let q = c.requires in
-    (q.standing.tabled, (q.box_ready.known, q.box_ready.there))
+    record { tabled = q.standing.tabled; b_lt_boxes = q.box_ready.known; r_in_bounds = q.box_ready.there }
 
 pub actions_at-from-requires : goal.actions_at-from-requires
 actions_at-from-requires c =
-    let shape = c.before.before.before.before in
-    let entry = shape.before.before.before.before in
+    let shape = c in
+    let entry = shape in
     let q = entry.requires in
     let w = ready _ _ _ _ _ _ q.standing _ q.box_ready.known _ entry.box_at-at.ensures.0 _ _ _ _ shape.shape_of-a.ensures _ q.box_ready.there _ (body_is c) in
-    ((w.few_ins, w.few_vars), whole_parts _ _ _ _ _ _ q.standing _ q.box_ready.known _ entry.box_at-at.ensures.0 _ _ _ _ shape.shape_of-a.ensures _ q.box_ready.there _ (body_is c))
+    record { ins_bound = (w.few_ins, w.few_vars); parted = whole_parts _ _ _ _ _ _ q.standing _ q.box_ready.known _ entry.box_at-at.ensures.0 _ _ _ _ shape.shape_of-a.ensures _ q.box_ready.there _ (body_is c) }
 
 pub scope-types-requires : goal.scope-types-requires
 scope-types-requires c =
     let body = c.before.before.before in
-    let shape = body.before.before.before.before in
-    let entry = shape.before.before.before.before in
+    let shape = body in
+    let entry = shape in
     let q = entry.requires in
     let w = ready _ _ _ _ _ _ q.standing _ q.box_ready.known _ entry.box_at-at.ensures.0 _ _ _ _ shape.shape_of-a.ensures _ q.box_ready.there _ (body_is body) in
-    ((w.few_ins, w.few_vars), ins_read _ _ _ w.laid)
+    record { ins_bound = (w.few_ins, w.few_vars); b_value = ins_read _ _ _ w.laid }
 
 pub values-vals-requires : goal.values-vals-requires
 values-vals-requires c =
-    let body = c.before.before.before.before.before in
-    let entry = body.before.before.before.before.before.before.before.before in
-    let q = entry.before.before.before.before.before.before.requires in
-    (q.0, q.1.known)
+    let body = c in
+    let entry = body in
+    let q = entry.requires in
+    record { standing = q.standing; k_lt_boxes = q.box_ready.known }
 
 pub apply-requires : goal.apply-requires
 apply-requires c =
-    let seen = c.before.before.before in
-    let typed = seen.before.before in
-    let begun = typed.before.before.before in
+    let seen = c in
+    let typed = seen in
+    let begun = typed in
     let body = begun.before in
-    let shape = body.before.before.before.before in
-    let entry = shape.before.before.before.before in
-    let q = entry.before.before.before.before.before.before.requires in
-    record { standing = q.0; works = works _ _ _ _ _ _ q.0 _ q.1.known _ entry.box-at.ensures.0 _ _ _ _ shape.shape_of.ensures _ q.1.there _ (body_is body) _ begun.actions-at.ensures _ seen.values-vals.ensures _ typed.scope.ensures q.1.sound }
+    let shape = body in
+    let entry = shape in
+    let q = entry.requires in
+    record { standing = q.standing; works = works _ _ _ _ _ _ q.standing _ q.box_ready.known _ entry.box_at-at.ensures.0 _ _ _ _ shape.shape_of-a.ensures _ q.box_ready.there _ (body_is body) _ begun.actions_at-from.ensures _ seen.values-vals.ensures _ typed.scope-types.ensures q.box_ready.sound }
 
 pub returns : goal.returns
 returns c =
-    let done = c.before.before in
-    let seen = done.before.before.before.before in
-    let typed = seen.before.before in
-    let begun = typed.before.before.before in
+    let done = c in
+    let seen = done in
+    let typed = seen in
+    let begun = typed in
     let body = begun.before in
-    let shape = body.before.before.before.before in
-    let entry = shape.before.before.before.before in
-    let q = entry.before.before.before.before.before.before.requires in
-    fired_as _ _ _ _ _ _ q.0 _ q.1.known _ entry.box-at.ensures.0 _ _ _ _ shape.shape_of.ensures _ q.1.there _ (body_is body) _ begun.actions-at.ensures _ seen.values-vals.ensures _ typed.scope.ensures _ done.apply.ensures
+    let shape = body in
+    let entry = shape in
+    let q = entry.requires in
+    fired_as _ _ _ _ _ _ q.standing _ q.box_ready.known _ entry.box_at-at.ensures.0 _ _ _ _ shape.shape_of-a.ensures _ q.box_ready.there _ (body_is body) _ begun.actions_at-from.ensures _ seen.values-vals.ensures _ typed.scope-types.ensures _ done.apply.ensures

@@ -18,32 +18,32 @@ shape_of-tab-in-Cut c = c.loop-at.invariant.1
 
 pub returns-in-Cut : goal.returns-in-Cut
 unfolding Fit
-returns-in-Cut c = (cut _ _ _ _ c.loop-at.invariant.0 (omega arith) (sym c.in-Cut.is ∙ c.field_at-f.ensures), tt)
+returns-in-Cut c = record { result_after = cut _ _ _ _ c.loop-at.invariant.0 (omega arith) (sym c.in-Cut.is ∙ c.field_at-f.ensures); fit = tt }
 
 pub part-body-requires : goal.part-body-requires
 part-body-requires c = (field_found _ _ _ _ _ (sym (sym c.in-At.is ∙ c.field_at-f.ensures))).ends
 
 pub field_fault-fault-requires : goal.field_fault-fault-requires
-field_fault-fault-requires c = c.loop.invariant in (i.0.within, (omega arith, i.2))
+field_fault-fault-requires c = let i = c.loop-at.invariant in record { within = i.0.within; in_bounds = omega arith; valid = i.2 }
 
 pub shape_of-tab-then-fault-ne0 : goal.shape_of-tab-then-fault-ne0
-shape_of-tab-then-fault-ne0 c = c.loop.invariant.1
+shape_of-tab-then-fault-ne0 c = c.loop-at.invariant.1
 
 pub returns-then-fault-ne0 : goal.returns-then-fault-ne0
 unfolding Fit
-returns-then-fault-ne0 c = (faulty _ _ _ _ c.loop.invariant.0 _ _ _ (omega arith) (sym c.f.given.1 ∙ c.field_at.ensures) _ (c.field_fault-fault.ensures ∙ ap (field_fault _ _ _) c.part.ensures.bytes) (omega arith), tt)
+returns-then-fault-ne0 c = record { result_after = faulty _ _ _ _ c.loop-at.invariant.0 _ _ _ (omega arith) (sym c.in-At.is ∙ c.field_at-f.ensures) _ (c.field_fault-fault.ensures ∙ ap (field_fault _ _ _) c.part-body.ensures.bytes) (omega arith); fit = tt }
 
 pub note-c-requires : goal.note-c-requires
-note-c-requires c = c.loop.invariant in (i.0.within, (roomy _ _ (omega arith) i.0.within _ _ (added _ _ _ _ (sym c.field_fault-fault.ensures ∙ c.if-fault-ne0.false)), (omega arith, omega arith)))
+note-c-requires c = let i = c.loop-at.invariant in record { within = i.0.within; room = roomy _ _ (omega arith) i.0.within _ _ (added _ _ _ _ (sym c.field_fault-fault.ensures ∙ c.if-fault-ne0.false)); in_bounds = (omega arith, omega arith) }
 
 pub overflow_add-at : goal.overflow_add-at
-overflow_add-at c = field_found _ _ _ _ _ (sym (sym c.f.given.1 ∙ c.field_at.ensures)) in omega arith
+overflow_add-at c = let w = field_found _ _ _ _ _ (sym (sym c.in-At.is ∙ c.field_at-f.ensures)) in omega arith
 
 pub loop-at-smaller : goal.loop-at-smaller
-loop-at-smaller c = field_found _ _ _ _ _ (sym (sym c.f.given.1 ∙ c.field_at.ensures)) in omega arith
+loop-at-smaller c = let w = field_found _ _ _ _ _ (sym (sym c.in-At.is ∙ c.field_at-f.ensures)) in omega arith
 
 pub loop-at-preserved : goal.loop-at-preserved
-loop-at-preserved c = c.loop.invariant in (on _ _ _ _ i.0 _ _ _ (omega arith) (sym c.f.given.1 ∙ c.field_at.ensures) _ _ (sym c.if-fault-ne0.false ∙ c.field_fault-fault.ensures ∙ ap (field_fault _ _ _) c.part.ensures.bytes) c.note-c.ensures, c.note-c.auto.0 ∙ i.1, still_sound _ _ _ _ _ _ _ _ _ i.2 (sym (sym c.f.given.1 ∙ c.field_at.ensures)) (sym (sym c.if-fault-ne0.false ∙ c.field_fault-fault.ensures ∙ ap (field_fault _ _ _) c.part.ensures.bytes)) c.note-c.ensures)
+loop-at-preserved c = let i = c.loop-at.invariant in (on _ _ _ _ i.0 _ _ _ (omega arith) (sym c.in-At.is ∙ c.field_at-f.ensures) _ _ (sym c.if-fault-ne0.false ∙ c.field_fault-fault.ensures ∙ ap (field_fault _ _ _) c.part-body.ensures.bytes) c.note-c.ensures, c.note-c.auto.0 ∙ i.1, still_sound _ _ _ _ _ _ _ _ _ i.2 (sym (sym c.in-At.is ∙ c.field_at-f.ensures)) (sym (sym c.if-fault-ne0.false ∙ c.field_fault-fault.ensures ∙ ap (field_fault _ _ _) c.part-body.ensures.bytes)) c.note-c.ensures)
 
 pub shape_of-tab : goal.shape_of-tab
 shape_of-tab c = c.loop-at.invariant.1

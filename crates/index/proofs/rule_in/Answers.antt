@@ -6,12 +6,12 @@ use native.Mathlib.Omega.{arith}
 use Rattle.index.proofs.rule_in.Goals as goal
 
 pub shape_of-a-requires : goal.shape_of-a-requires
-shape_of-a-requires c = c.requires in (omega arith, (last_fits _ _ _ p.1.0.0 p.0 p.1.1 p.1.0.1 c.entry-o.result c.entry-o.ensures.0, (omega arith, omega arith, omega arith)))
+shape_of-a-requires c = let p = c.requires in record { wires_in_bounds = omega arith; box_fits = last_fits _ _ _ p.in_bounds.0 p.within p.valid p.in_bounds.1 c.entry-o.result c.entry-o.ensures.0; in_bounds = (omega arith, omega arith, omega arith) }
 
 pub rule_fault-requires : goal.rule_fault-requires
 rule_fault-requires c =
     let p = c.requires in
-    let e = c.before.before.before.before.before.before.before.before.before.before in
+    let e = c in
     let sh = c.shape_of-a.ensures in
     let f = last_fits _ _ _ p.in_bounds.0 p.within p.valid p.in_bounds.1 e.entry-o.result e.entry-o.ensures.0 in
     record { ins_bound = (ins_few _ _ _ _ _ _ sh f.body, outs_few _ _ _ _ _ _ sh f.body, vars_few _ _ _ _ _ _ sh f.body); precise = rule_precise _ _ _ p.in_bounds.0 p.within p.valid p.in_bounds.1 e.entry-o.result e.entry-o.ensures.0 _ _ _ _ sh }
@@ -19,8 +19,8 @@ rule_fault-requires c =
 pub returns-in-Sound : goal.returns-in-Sound
 unfolding number_of
 returns-in-Sound c =
-    let k = c.before.before in
-    let e = k.before.before.before.before.before.before.before.before.before.before.before in
+    let k = c in
+    let e = k in
     let p = e.requires in
     ap number_of (sym c.in-Sound.is)
     ∙ rule_is_lem _ _ _ p.in_bounds.0 p.within p.valid p.in_bounds.1 e.entry-o.result e.entry-o.ensures.0 _ _ _ k.shape_of-a.ensures k.rule_fault.ensures
@@ -28,8 +28,8 @@ returns-in-Sound c =
 pub returns-in-Faulty : goal.returns-in-Faulty
 unfolding number_of
 returns-in-Faulty c =
-    let k = c.before.before.before in
-    let e = k.before.before.before.before.before.before.before.before.before.before.before in
+    let k = c in
+    let e = k in
     let p = e.requires in
     ap number_of (sym c.in-Faulty.is)
     ∙ rule_is_lem _ _ _ p.in_bounds.0 p.within p.valid p.in_bounds.1 e.entry-o.result e.entry-o.ensures.0 _ _ _ k.shape_of-a.ensures k.rule_fault.ensures

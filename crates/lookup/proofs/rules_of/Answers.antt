@@ -10,7 +10,7 @@ use Rattle.lookup.proofs.rules_of.Goals as goal
 
 many : (c : goal.After-rules_end-end) → let a = c.args in c.rules_end-end.result - c.entry-first.result ≡ length (box_at a.net.now (index_in a.table.now a.c) a.b.0).rules
 many c =
-    let at = c.before in
+    let at = c in
     let h = at.requires in
     rules_read _ _ _ h.tabled _ _ _ _ h.b_lt_boxes at.wide-k.ensures.0 at.entry-first.ensures.0 c.rules_end-end.ensures
 

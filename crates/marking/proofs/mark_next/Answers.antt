@@ -4,7 +4,7 @@ use Rattle.marking.proofs.Noting.{step_quiet, step_faulty, step_fires}
 use Rattle.marking.proofs.mark_next.Goals as goal
 
 pub mark_of-requires : goal.mark_of-requires
-mark_of-requires c = c.requires in record { standing = q.0; fields = q.1.0; k_bound = q.1.1.0 }
+mark_of-requires c = let q = c.requires in record { standing = q.standing; fields = q.fields; k_bound = q.k_bound }
 
 pub noted-requires : goal.noted-requires
 noted-requires c =
@@ -19,4 +19,4 @@ pub returns-in-Faulty : goal.returns-in-Faulty
 returns-in-Faulty c = step_faulty _ _ _ _ _ _ (sym c.in-Faulty.is ∙ c.mark_of.ensures)
 
 pub returns-in-Fires : goal.returns-in-Fires
-returns-in-Fires c = c.noted.ensures in step_fires _ _ _ _ _ _ (sym c.in-Fires.is ∙ c.mark_of.ensures) n.0 n.1
+returns-in-Fires c = let n = c.noted.ensures in step_fires _ _ _ _ _ _ (sym c.in-Fires.is ∙ c.mark_of.ensures) n.0 n.1

@@ -15,7 +15,7 @@ bounds-order-i c = omega arith
 pub returns-then-k-ge64 : goal.returns-then-k-ge64
 returns-then-k-ge64 c =
     let l = c.loop-i in
-    let start = c.before.before.before.before.before in
+    let start = c in
     sym (l.invariant.2 ∙ turn_high l.left start.args.order.now l.i (omega arith) (omega (arith, start.ranges.set)) c.if-k-ge64.true)
 
 pub is_marked-requires : goal.is_marked-requires

@@ -9,7 +9,7 @@ use Rattle.matching.proofs.outs_open.Goals as goal
 
 pub loop-k-init : goal.loop-k-init
 loop-k-init c =
-    let s = c.before.before in
+    let s = c in
     let a = s.args in
     let z : a.n - 0 ≡ a.n = omega arith in
     (omega arith, (ap (λ (m : ℕ). is_read (actions_from false m a.from a.b.now)) z ∙ s.requires, ap (left a.full.now a.b.now 0 a.from) z))
@@ -22,14 +22,14 @@ skip_action-next-requires c =
 
 pub returns-then-c-f : goal.returns-then-c-f
 returns-then-c-f c =
-    let d = c.before.before.before in
+    let d = c in
     let a = d.args in
     let i = d.loop-k in
     left_shut _ _ (a.n - i.k) i.at (omega arith) i.invariant.1.0 _ d.skip_action-next.ensures _ _ _ c.byte_at-c.ensures c.byte_at-f.ensures c.if-c-f.true ∙ i.invariant.1.1
 
 pub loop-k-preserved : goal.loop-k-preserved
 loop-k-preserved c =
-    let d = c.before.before.before in
+    let d = c in
     let a = d.args in
     let i = d.loop-k in
     let q : a.n - i.k - 1 ≡ a.n - (i.k + 1) = omega arith in

@@ -14,13 +14,13 @@ returns-then-pattern_tag-tag c = ready_tag c.byte_at-c.ensures _ _ _ c.if-c-eq0.
 
 pub returns-then-c : goal.returns-then-c
 returns-then-c c =
-    let s = c.before.before.before.before.before.before.before in
+    let s = c in
     let v = c.value_at in
-    let m = c.before.before.before in
+    let m = c in
     ready_constant m.byte_at-c.ensures _ _ _ m.if-c-eq0.false m.pattern_tag.ensures c.if-pattern_tag-tag.false c.if-c.true
     (eqb_bits v.result s.args.value (sfits_of v.type-inv) s.ranges.value ∙ ap (λ (z : ℤ). eq_z z s.args.value) v.ensures.0)
 
 pub returns : goal.returns
 returns c =
-    let m = c.before.before in
+    let m = c in
     ready_any m.byte_at-c.ensures _ _ _ m.if-c-eq0.false m.pattern_tag.ensures c.if-pattern_tag-tag.false c.if-c.false

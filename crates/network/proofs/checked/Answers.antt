@@ -11,37 +11,37 @@ use Rattle.network.proofs.checked.Goals as goal
 
 pub returns-then-net-gt16384 : goal.returns-then-net-gt16384
 unfolding verdict_in Fit
-returns-then-net-gt16384 c = (too_long c.args.net.now c.if-net-gt16384.true, tt)
+returns-then-net-gt16384 c = record { result_after = too_long c.args.net.now c.if-net-gt16384.true; fit = tt }
 
 pub returns-in_default : goal.returns-in_default
 returns-in_default c =
-    let i = c.before.before.before.before in
-    let start = i.before.before.before.before.before in
-    (bad-result start.args.net.now i.index-r.new.tab i.index-r.result _ _ i.if-net-gt16384.false c.in_default.is i.index-r.ensures.0, i.index-r.ensures.1)
+    let i = c in
+    let start = i in
+    record { result_after = bad-result start.args.net.now i.index-r.new.tab i.index-r.result _ _ i.if-net-gt16384.false c.in_default.is i.index-r.ensures.0; fit = i.index-r.ensures.1 }
 
 pub odd_wire-w-requires : goal.odd_wire-w-requires
 odd_wire-w-requires c =
-    let i = c.before.before.before.before.before.before in
-    let start = i.before.before.before.before.before in
-    let e = good_result start.args.net.now i.index.new.1.0 i.index.result _ c.r.given.1 i.index.ensures.0 in
-    (good_fit i.index.result _ c.r.given.1 i.index.ensures.1, (search rules, fields_valid start.args.net.now _ (sym e)))
+    let i = c in
+    let start = i in
+    let e = good_result start.args.net.now i.index-r.new.tab i.index-r.result _ c.in-Good.is i.index-r.ensures.0 in
+    record { within = good_fit i.index-r.result _ c.in-Good.is i.index-r.ensures.1; in_bounds = search rules; valid = fields_valid start.args.net.now _ (sym e) }
 
 pub returns-then-w-wires : goal.returns-then-w-wires
 unfolding verdict_in Fit
 returns-then-w-wires c =
-    let i = c.before.before.before.before.before.before.before.before in
-    let start = i.before.before.before.before.before in
-    let r = c.r in
-    let long : 656 ≤ length i.index.new.1.0 = search rules in
-    let e = good_result start.args.net.now i.index.new.1.0 i.index.result _ r.given.1 i.index.ensures.0 in
-    (odd_ports start.args.net.now i.if1.false _ c.odd_wire-w.result e c.odd_wire-w.ensures (omega (arith, c.if-w-wires.true, wires_n i.index.new.1.0 _ long (good_fit i.index.result _ r.given.1 i.index.ensures.1))), tt)
+    let i = c in
+    let start = i in
+    let r = c.r-1 in
+    let long : 656 ≤ length i.index-r.new.tab = search rules in
+    let e = good_result start.args.net.now i.index-r.new.tab i.index-r.result _ r.given.1 i.index-r.ensures.0 in
+    record { result_after = odd_ports start.args.net.now i.if-net-gt16384.false _ c.odd_wire-w.result e c.odd_wire-w.ensures (omega (arith, c.if-w-wires.true, wires_n i.index-r.new.tab _ long (good_fit i.index-r.result _ r.given.1 i.index-r.ensures.1))); fit = tt }
 
 pub returns : goal.returns
 unfolding verdict_in Fit
 returns c =
-    let i = c.before.before.before.before.before.before.before.before in
-    let start = i.before.before.before.before.before in
-    let r = c.r in
-    let long : 656 ≤ length i.index.new.1.0 = search rules in
-    let e = good_result start.args.net.now i.index.new.1.0 i.index.result _ r.given.1 i.index.ensures.0 in
-    record { result_after = all_good start.args.net.now i.if1.false _ c.odd_wire-w.result e c.odd_wire-w.ensures (omega (arith, c.if-w-wires.false, wires_n i.index.new.1.0 _ long (good_fit i.index.result _ r.given.1 i.index.ensures.1))); fit = good_fit i.index.result _ r.given.1 i.index.ensures.1 }
+    let i = c in
+    let start = i in
+    let r = c.r-1 in
+    let long : 656 ≤ length i.index-r.new.tab = search rules in
+    let e = good_result start.args.net.now i.index-r.new.tab i.index-r.result _ r.given.1 i.index-r.ensures.0 in
+    record { result_after = all_good start.args.net.now i.if-net-gt16384.false _ c.odd_wire-w.result e c.odd_wire-w.ensures (omega (arith, c.if-w-wires.false, wires_n i.index-r.new.tab _ long (good_fit i.index-r.result _ r.given.1 i.index-r.ensures.1))); fit = good_fit i.index-r.result _ r.given.1 i.index-r.ensures.1 }

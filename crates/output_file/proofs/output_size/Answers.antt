@@ -26,8 +26,8 @@ overflow_cast-k c =
 
 pub field_size-size-requires : goal.field_size-size-requires
 field_size-size-requires c =
-    let start = c.before.before.before.before.before.before.before.before in
-    (start.requires, record { least = c.loop-k.invariant.0; most = c.loop-k-test.true })
+    let start = c in
+    record { saved = start.requires; output = record { least = c.loop-k.invariant.0; most = c.loop-k-test.true } }
 
 pub overflow_add-size : goal.overflow_add-size
 overflow_add-size c =
@@ -44,7 +44,7 @@ loop-k-smaller c =
 
 pub loop-k-preserved : goal.loop-k-preserved
 loop-k-preserved c =
-    let start = c.before.before.before.before.before.before.before.before.before in
+    let start = c in
     let l = c.loop-k in
     let less = c.loop-k-test.true in
     let n = (bare_net start.args.net.now start.args.table.now start.args.c) in
@@ -54,7 +54,7 @@ loop-k-preserved c =
 
 pub returns : goal.returns
 returns c =
-    let start = c.before.before.before.before.before.before.before.before in
+    let start = c in
     let l = c.loop-k in
     let none = ap (λ (x : List ℕ). length x) (file_done (bare_net start.args.net.now start.args.table.now start.args.c) start.args.state.now l.k (no_process start.args.net.now start.args.table.now start.args.state.now start.args.c start.requires.tabled l.k c.loop-k-test.false)) in
     let all = ap (λ (x : List ℕ). length x) (bare_file start.args.net.now start.args.table.now start.args.state.now start.args.c start.requires.tabled) in

@@ -6,8 +6,8 @@ use Rattle.output_file.proofs.write_field.Goals as goal
 pub own_span-span-requires : goal.own_span-span-requires
 unfolding bare_net
 own_span-span-requires c =
-    let start = c.before.before.before.before.before in
-    (start.requires.saved.tabled, (start.requires.saved.placed, start.requires.output.most))
+    let start = c in
+    record { tabled = start.requires.saved.tabled; placed = start.requires.saved.placed; k_bound = start.requires.output.most }
 
 pub slice_bounds-field_out-end : goal.slice_bounds-field_out-end
 unfolding bare_net
@@ -17,14 +17,14 @@ slice_bounds-field_out-end c =
 pub field_out-requires : goal.field_out-requires
 unfolding bare_net
 field_out-requires c =
-    let start = c.before.before.before.before.before.before.before.before in
+    let start = c in
     let r = c.own_span-span in
     part_needs start.args.net.now start.args.table.now start.args.starts.now start.args.state.now start.args.c start.requires.saved (λ i. (c.shared_slice_known-4-1.given i).fits) start.args.k.0 start.requires.output _ start.args.out.now (part_at start.args.net.now start.args.table.now start.args.starts.now start.args.state.now start.args.c start.requires.saved (λ i. (c.shared_slice_known-4-1.given i).fits) start.args.k.0 start.requires.output r.result.start r.result.end r.ensures.start r.ensures.end) start.requires.k_in_bounds
 
 pub returns : goal.returns
 unfolding bare_net
 returns c =
-    let start = c.before.before.before.before.before.before.before.before.before.before.before in
+    let start = c in
     let r = c.own_span-span in
     let w = c.field_out in
     part_writes start.args.net.now start.args.table.now start.args.starts.now start.args.state.now start.args.c start.requires.saved (λ i. (c.shared_slice_known-4-1.given i).fits) start.args.k.0 start.requires.output _ start.args.out.now _ _ (part_at start.args.net.now start.args.table.now start.args.starts.now start.args.state.now start.args.c start.requires.saved (λ i. (c.shared_slice_known-4-1.given i).fits) start.args.k.0 start.requires.output r.result.start r.result.end r.ensures.start r.ensures.end) w.ensures.0 w.ensures.1

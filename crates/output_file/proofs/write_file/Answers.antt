@@ -17,7 +17,7 @@ overflow_add-total c = omega (arith, c.requires.saved.tabled.within)
 
 pub loop-k-init : goal.loop-k-init
 loop-k-init c =
-    let start = c.before.before.before.before.before.before.before in
+    let start = c in
     (omega arith, refl, omega arith, written_first (bare_net start.args.net.now start.args.table.now start.args.c) start.args.state.now (start.args.c.boxes + start.args.c.inputs) start.args.out.now)
 
 pub overflow_cast-k : goal.overflow_cast-k
@@ -34,16 +34,16 @@ slice_bounds-write_field-end c = omega (arith, c.loop-k.invariant.1)
 
 pub write_field-at-requires : goal.write_field-at-requires
 write_field-at-requires c =
-    let start = c.before.before.before.before.before.before.before.before.before.before in
+    let start = c in
     let l = c.loop-k in
     let less = is_process start.args.net.now start.args.table.now start.args.state.now start.args.c start.requires.saved.tabled l.k c.loop-k-test.true in
     let room = room_for start.args.net.now start.args.table.now start.args.state.now start.args.c start.requires.saved.tabled start.args.out.now start.requires.state_in_bounds in
     let part = mid_len l.at (length start.args.out.now) l.out (omega (arith, l.invariant.1)) in
-    (start.requires.saved, (record { least = l.invariant.0; most = c.loop-k-test.true }, omega (arith, part, written-room (bare_net start.args.net.now start.args.table.now start.args.c) start.args.state.now (start.args.c.boxes + start.args.c.inputs) start.args.out.now l.out l.at l.k l.invariant.3 less room)))
+    record { saved = start.requires.saved; output = record { least = l.invariant.0; most = c.loop-k-test.true }; k_in_bounds = omega (arith, part, written-room (bare_net start.args.net.now start.args.table.now start.args.c) start.args.state.now (start.args.c.boxes + start.args.c.inputs) start.args.out.now l.out l.at l.k l.invariant.3 less room) }
 
 pub overflow_add-at : goal.overflow_add-at
 overflow_add-at c =
-    let start = c.before.before.before.before.before.before.before.before.before.before.before.before.before in
+    let start = c in
     let l = c.loop-k in
     let less = is_process start.args.net.now start.args.table.now start.args.state.now start.args.c start.requires.saved.tabled l.k c.loop-k-test.true in
     let room = room_for start.args.net.now start.args.table.now start.args.state.now start.args.c start.requires.saved.tabled start.args.out.now start.requires.state_in_bounds in
@@ -59,7 +59,7 @@ loop-k-smaller c = omega (arith, c.loop-k-test.true)
 
 pub loop-k-preserved : goal.loop-k-preserved
 loop-k-preserved c =
-    let start = c.before.before.before.before.before.before.before.before.before.before.before.before.before in
+    let start = c in
     let l = c.loop-k in
     let less = is_process start.args.net.now start.args.table.now start.args.state.now start.args.c start.requires.saved.tabled l.k c.loop-k-test.true in
     let room = room_for start.args.net.now start.args.table.now start.args.state.now start.args.c start.requires.saved.tabled start.args.out.now start.requires.state_in_bounds in
@@ -76,7 +76,7 @@ shape_of-out c = c.loop-k.invariant.1
 
 pub returns : goal.returns
 returns c =
-    let start = c.before.before.before.before.before.before.before.before.before in
+    let start = c in
     let l = c.loop-k in
     let none = no_process start.args.net.now start.args.table.now start.args.state.now start.args.c start.requires.saved.tabled l.k c.loop-k-test.false in
     written_last (bare_net start.args.net.now start.args.table.now start.args.c) start.args.state.now (start.args.c.boxes + start.args.c.inputs) start.args.out.now l.out l.at l.k l.invariant.3 none

@@ -1,5 +1,6 @@
 use Prim.Native.Nat.{ℕ, ◌+◌, ◌<◌}
 use mathlib.Core.Path.{◌≡◌, refl, sym, ap₂, ◌∙◌}
+use mathlib.Core.List.{[]}
 use native.Mathlib.Omega.{arith}
 use lib.ListN.{length, length-set}
 use Rattle.model.specs.NetworkFile.{net_of}
@@ -16,7 +17,7 @@ loop-j-init c = (omega arith, refl, refl, record { each = λ i h. absurd (omega 
 
 pub overflow_cast-starts : goal.overflow_cast-starts
 overflow_cast-starts c =
-    let start = c.before.before.before.before.before.before.before.before in
+    let start = c in
     omega (arith, c.loop-j.invariant.2, start_most (sizes_of (net_of start.args.net.now (index_in start.args.table.now start.args.c) [])) c.loop-j.j, sizes_most start.args.net.now start.args.table.now start.args.c start.requires.tabled)
 
 pub offset_bounds-starts-j : goal.offset_bounds-starts-j
@@ -26,11 +27,11 @@ pub bounds-starts-j : goal.bounds-starts-j
 bounds-starts-j c = omega (arith, c.requires.tabled.within, c.loop-j.invariant.1)
 
 pub segment_size-at-requires : goal.segment_size-at-requires
-segment_size-at-requires c = (c.requires.tabled, omega arith)
+segment_size-at-requires c = record { tabled = c.requires.tabled; j_bound = omega arith }
 
 pub overflow_add-at : goal.overflow_add-at
 overflow_add-at c =
-    let start = c.before.before.before.before.before.before.before.before.before in
+    let start = c in
     let l = c.loop-j in
     let sizes = sizes_of (net_of start.args.net.now (index_in start.args.table.now start.args.c) []) in
     let inside : l.j < length sizes = omega (arith, sizes_length start.args.net.now start.args.table.now start.args.c start.requires.tabled) in
@@ -46,7 +47,7 @@ loop-j-smaller c = omega arith
 
 pub loop-j-preserved : goal.loop-j-preserved
 loop-j-preserved c =
-    let start = c.before.before.before.before.before.before.before.before.before in
+    let start = c in
     let l = c.loop-j in
     let sizes = sizes_of (net_of start.args.net.now (index_in start.args.table.now start.args.c) []) in
     let inside : l.j < length sizes = omega (arith, sizes_length start.args.net.now start.args.table.now start.args.c start.requires.tabled) in
@@ -56,7 +57,7 @@ loop-j-preserved c =
 
 pub overflow_cast-starts-2 : goal.overflow_cast-starts-2
 overflow_cast-starts-2 c =
-    let start = c.before.before.before.before.before.before.before.before in
+    let start = c in
     omega (arith, c.loop-j.invariant.2, start_most (sizes_of (net_of start.args.net.now (index_in start.args.table.now start.args.c) [])) c.loop-j.j, sizes_most start.args.net.now start.args.table.now start.args.c start.requires.tabled)
 
 pub offset_bounds-starts-total : goal.offset_bounds-starts-total
@@ -70,7 +71,7 @@ shape_of-starts c = length-set c.loop-j.starts _ _ ∙ c.loop-j.invariant.1
 
 pub returns : goal.returns
 returns c =
-    let start = c.before.before.before.before.before.before.before.before in
+    let start = c in
     let l = c.loop-j in
     let n = net_of start.args.net.now (index_in start.args.table.now start.args.c) [] in
     let long = sizes_length start.args.net.now start.args.table.now start.args.c start.requires.tabled in

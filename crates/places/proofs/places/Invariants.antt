@@ -1,5 +1,6 @@
 use Prim.Native.Nat.{◌≤◌, ◌-◌}
 use mathlib.Core.Path.{◌≡◌}
+use mathlib.Core.List.{[]}
 use lib.ListN.{length}
 use Rattle.model.specs.NetworkFile.{net_of}
 use Rattle.table.specs.Table.{index_in}

@@ -14,10 +14,10 @@ use Rattle.printing.proofs.outcome_line.Goals as goal
 pub returns : goal.returns
 unfolding outcome_line
 returns c =
-    let byte = c.before.before in
-    let box = byte.before.before.before.before in
-    let number = box.before.before.before.before in
-    let text = number.before.before.before.before in
-    let word = text.before.before.before.before.before in
-    let head = word.before.before.before.before in
+    let byte = c in
+    let box = byte in
+    let number = box in
+    let text = number in
+    let word = text in
+    let head = word in
     then _ _ _ head.put_text-end.ensures (then _ _ _ word.put_word-end.ensures (then _ _ _ text.put_text-end-2.ensures (then _ _ _ number.put_decimal-end.ensures (then _ _ _ box.put_box-end.ensures byte.put_byte.ensures))))

@@ -10,9 +10,9 @@ use Rattle.printing.proofs.output_line.Goals as goal
 pub returns : goal.returns
 unfolding output_line
 returns c =
-    let byte = c.before.before in
-    let got = byte.before.before.before.before in
-    let colon = got.before.before.before.before in
-    let number = colon.before.before.before.before in
-    let head = number.before.before.before.before in
+    let byte = c in
+    let got = byte in
+    let colon = got in
+    let number = colon in
+    let head = number in
     then _ _ _ head.put_text-end.ensures (then _ _ _ number.put_decimal-end.ensures (then _ _ _ colon.put_byte-end.ensures (then _ _ _ got.put_got-end.ensures byte.put_byte.ensures)))

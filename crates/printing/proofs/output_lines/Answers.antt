@@ -25,7 +25,7 @@ pub overflow_cast-k : goal.overflow_cast-k
 overflow_cast-k c = omega (arith, c.requires.tabled.within, c.loop-k-test.true)
 
 pub own_part-part-requires : goal.own_part-part-requires
-own_part-part-requires c = (c.requires, c.loop-k-test.true)
+own_part-part-requires c = record { standing = c.requires; k_bound = c.loop-k-test.true }
 
 pub overflow_sub-k : goal.overflow_sub-k
 overflow_sub-k c = omega (arith, c.loop-k.invariant.0)
@@ -38,7 +38,7 @@ loop-k-smaller c = omega (arith, c.loop-k-test.true)
 
 pub loop-k-preserved : goal.loop-k-preserved
 loop-k-preserved c =
-    let start = c.before.before.before.before.before.before.before.before.before.before.before.before.before.before.before in
+    let start = c in
     let a = start.args in
     let l = c.loop-k in
     let less = c.loop-k-test.true in
@@ -57,7 +57,7 @@ shape_of-buf c = c.loop-k.invariant.1
 
 pub returns : goal.returns
 returns c =
-    let start = c.before.before.before.before.before.before.before.before.before.before in
+    let start = c in
     let a = start.args in
     let l = c.loop-k in
     let none = ap (λ (x : List ℕ). laid x (page l.end l.buf)) (lines_done a.net.now a.table.now a.starts.now a.tokens.now a.state.now a.c start.requires (l.k - (a.c.boxes + a.c.inputs)) l.k c.loop-k-test.false) in

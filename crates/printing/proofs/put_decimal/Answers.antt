@@ -20,11 +20,11 @@ loop-first-preserved c =
 
 pub slice_bounds-put_text-end : goal.slice_bounds-put_text-end
 slice_bounds-put_text-end c =
-    let l = c.loop in
+    let l = c.loop-first in
     omega (arith, length-set l.digits l.first (48 + l.n % 10), l.invariant.1)
 
 pub returns : goal.returns
 returns c =
-    let l = c.loop in
-    let few : 0 < l.first → l.n < 10 = ⊎_elim (λ w z. leb-false 10 l.n w.1.left) (λ w z. absurd (omega (arith, w.left, z))) c.loop-test.branch in
+    let l = c.loop-first in
+    let few : 0 < l.first → l.n < 10 = ⊎_elim (λ w z. leb-false 10 l.n w.1.left) (λ w z. absurd (omega (arith, w.left, z))) c.loop-first-test.branch in
     as_said _ (digits_done l.digits l.first l.n _ _ l.invariant.1 l.invariant.0 few refl l.invariant.2) c.put_text.ensures

@@ -9,7 +9,7 @@ loop-i-init c = (omega arith, refl, refl)
 
 pub loop-i-preserved : goal.loop-i-preserved
 loop-i-preserved c =
-    let start = c.before.before.before.before.before.before.before.before.before in
+    let start = c in
     let l = c.loop-i in
     let w = c.put_byte-end in
     let less = c.loop-i-test.true in
@@ -17,6 +17,6 @@ loop-i-preserved c =
 
 pub returns : goal.returns
 returns c =
-    let start = c.before.before.before.before in
+    let start = c in
     let l = c.loop-i in
     sym (text_done start.args.text.now l.i (page l.end l.buf) c.loop-i-test.false) ∙ l.invariant.2

@@ -15,10 +15,10 @@ use Rattle.printing.proofs.refused_line.Goals as goal
 pub returns : goal.returns
 unfolding refused_line
 returns c =
-    let byte = c.before.before in
-    let place = byte.before.before.before.before in
-    let text = place.before.before.before.before in
-    let number = text.before.before.before.before.before in
-    let head = number.before.before.before.before.before in
+    let byte = c in
+    let place = byte in
+    let text = place in
+    let number = text in
+    let head = number in
     let wide = ap decimal number.wide.ensures.0 in
     then _ _ _ head.put_text-end.ensures (then _ _ _ (as_said _ wide number.put_decimal-end.ensures) (then _ _ _ text.put_text-end-2.ensures (then _ _ _ place.put_decimal-end-2.ensures byte.put_byte.ensures)))

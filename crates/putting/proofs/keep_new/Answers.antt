@@ -1,25 +1,15 @@
 use mathlib.Core.Bool.{true}
-use mathlib.Core.List.{List}
-use Prim.Native.Nat.{ℕ, ◌-◌}
+use Prim.Native.Nat.{◌-◌}
 use native.Mathlib.Omega.{arith}
-use lib.IntN.{ℤ}
-use Rattle.model.specs.declared.ProcessId.{ProcessId}
-use Rattle.model.specs.Network.{own, vars_of}
 use Rattle.types.specs.Scopes.{scope_in}
-use Rattle.table.specs.declared.Counts.{Counts}
-use Rattle.places.specs.Standing.{state_of}
 use Rattle.actions.proofs.Acting.{First, ready_there, ready_first}
 use Rattle.putting.proofs.Sent.{workable}
 use Rattle.putting.proofs.Kept.{kept_start, kept_can, kept_next, kept_last}
 use Rattle.putting.proofs.keep_new.Goals as goal
 
--- the variables of a box
-abbrev held : List ℕ → List ℕ → Counts → List ℕ → List ℕ → ProcessId → List ℤ
-held net table c tokens state k = vars_of (own (state_of net table c tokens state) k.0)
-
 pub loop-var-init : goal.loop-var-init
 loop-var-init c =
-    let s = c.before.before.before.before.before.before in
+    let s = c in
     let p = s.requires in
     (omega arith, kept_start _ _ _ _ _ _ s.requires.standing _ s.requires.k_lt_boxes _ _ _ _ _ p.keeps p.ready)
 
@@ -41,7 +31,7 @@ first c =
 
 pub keep_one-requires : goal.keep_one-requires
 keep_one-requires c =
-    let s = c.before.before.before.before.before.before.before.before.before.before in
+    let s = c in
     let p = s.requires in
     let i = c.loop-var in
     let t = c.loop-var-test.true in
@@ -50,7 +40,7 @@ keep_one-requires c =
 
 pub loop-var-preserved : goal.loop-var-preserved
 loop-var-preserved c =
-    let s = c.before.before.before.before.before.before.before.before.before.before.before.before.before in
+    let s = c in
     let p = s.requires in
     let i = c.loop-var in
     let t = c.loop-var-test.true in
@@ -61,7 +51,7 @@ shape_of-state c = c.loop-var.invariant.1.left.became.long
 
 pub returns : goal.returns
 returns c =
-    let s = c.before.before.before.before.before.before.before.before in
+    let s = c in
     let p = s.requires in
     let i = c.loop-var in
     kept_last _ _ _ _ _ _ s.requires.standing _ s.requires.k_lt_boxes _ _ _ _ _ p.keeps p.vars_bound.1 _ _ _ c.loop-var-test.false i.invariant.0 i.invariant.1

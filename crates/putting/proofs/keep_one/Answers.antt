@@ -4,7 +4,7 @@ use Rattle.putting.proofs.keep_one.Goals as goal
 
 pub keep-requires : goal.keep-requires
 keep-requires c =
-    let x = c.before.before.before.before.before.before.before.before.before.before in
+    let x = c in
     let r = c.kept_value-z in
     let q = kept_is _ _ c.number_at-old.ensures (back c.number_at-old.type-inv) r.ensures (back r.type-inv) in
     record { standing = x.requires.standing; can_keep = keep_asks q x.requires.can_keep }

@@ -1,23 +1,14 @@
 use mathlib.Core.Bool.{false}
-use mathlib.Core.List.{List}
-use Prim.Native.Nat.{ℕ, ◌-◌}
+use Prim.Native.Nat.{◌-◌}
 use native.Mathlib.Omega.{arith}
-use Rattle.model.specs.declared.ProcessId.{ProcessId}
-use Rattle.model.specs.NetworkFile.{box_at}
 use Rattle.types.specs.Scopes.{scope_in}
-use Rattle.table.specs.declared.Counts.{Counts}
-use Rattle.table.specs.Table.{index_in}
 use Rattle.actions.proofs.Acting.{First, ready_there, ready_first}
 use Rattle.putting.proofs.Sent.{sent_start, sent_places, sent_next, sent_last, workable}
 use Rattle.putting.proofs.put_sent.Goals as goal
 
--- the output wires of a box
-abbrev wires : List ℕ → List ℕ → Counts → ProcessId → List ℕ
-wires net table c k = (box_at net (index_in table c) k.0).outs
-
 pub loop-out-init : goal.loop-out-init
 loop-out-init c =
-    let s = c.before.before.before.before.before.before in
+    let s = c in
     let p = s.requires in
     (omega arith, sent_start _ _ _ _ _ _ _ _ _ _ _ _ s.requires.standing p.ready p.places)
 
@@ -39,7 +30,7 @@ first c =
 
 pub put_one-requires : goal.put_one-requires
 put_one-requires c =
-    let s = c.before.before.before.before.before.before.before.before.before.before in
+    let s = c in
     let i = c.loop-out in
     let f = first c.before in
     let t = c.loop-out-test.true in
@@ -47,7 +38,7 @@ put_one-requires c =
 
 pub loop-out-preserved : goal.loop-out-preserved
 loop-out-preserved c =
-    let s = c.before.before.before.before.before.before.before.before.before.before.before.before.before in
+    let s = c in
     let i = c.loop-out in
     let t = c.loop-out-test.true in
     (omega arith, sent_next _ _ _ _ _ _ _ _ _ _ _ _ s.requires.outs_value _ _ _ _ t (first c.before.before.before.before) i.invariant.1 _ c.put_one.ensures)
@@ -57,5 +48,5 @@ shape_of-state c = c.loop-out.invariant.1.left.became.long
 
 pub returns : goal.returns
 returns c =
-    let s = c.before.before.before.before.before.before.before.before in
+    let s = c in
     sent_last _ _ _ _ _ _ _ _ _ _ _ _ s.requires.outs_value _ _ _ c.loop-out-test.false c.loop-out.invariant.1

@@ -7,7 +7,7 @@ use Rattle.rules.proofs.Ends.{action_none, action_unknown, action_sent, action_b
 use Rattle.rules.proofs.action_end.Goals as goal
 
 pub returns-then-b-at : goal.returns-then-b-at
-returns-then-b-at c = c.args in action_none (action_codes a.var) a.b.now a.at c.if-b-at.true
+returns-then-b-at c = let a = c.args in action_none (action_codes a.var) a.b.now a.at c.if-b-at.true
 
 pub returns-then-not-action_known : goal.returns-then-not-action_known
 returns-then-not-action_known c =

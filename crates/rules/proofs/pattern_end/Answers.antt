@@ -9,7 +9,7 @@ use Rattle.rules.proofs.Ends.{pattern_none, pattern_unknown, pattern_cut, patter
 use Rattle.rules.proofs.pattern_end.Goals as goal
 
 pub returns-then-b-at : goal.returns-then-b-at
-returns-then-b-at c = c.args in pattern_none (pattern_codes a.var) a.b.now a.at c.if-b-at.true
+returns-then-b-at c = let a = c.args in pattern_none (pattern_codes a.var) a.b.now a.at c.if-b-at.true
 
 pub returns-then-not-pattern_known : goal.returns-then-not-pattern_known
 returns-then-not-pattern_known c =

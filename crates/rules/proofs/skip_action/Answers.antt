@@ -21,16 +21,16 @@ pub bounds-b-at : goal.bounds-b-at
 bounds-b-at c = inside c.before.before
 
 pub overflow_add-at : goal.overflow_add-at
-overflow_add-at c = called c.before in record { fits = omega (arith, inside s, s.good.0.0) }
+overflow_add-at c = let s = called c.before in record { fits = omega (arith, inside s, s.good.0.0) }
 
 pub skip-requires : goal.skip-requires
-skip-requires c = called c.before in sent_there _ s.args.at _ s.pre refl (held c)
+skip-requires c = let s = called c.before in sent_there _ s.args.at _ s.requires refl (held c)
 
 pub returns-then-holds_expression : goal.returns-then-holds_expression
-returns-then-holds_expression c = called c.before.before in c.skip.ensures ∙ sent_skip _ s.args.at _ s.pre refl (held c.before)
+returns-then-holds_expression c = let s = called c.before.before in c.skip.ensures ∙ sent_skip _ s.args.at _ s.requires refl (held c.before)
 
 pub overflow_add-result : goal.overflow_add-result
-overflow_add-result c = called c.before in record { fits = omega (arith, inside s, s.good.0.0) }
+overflow_add-result c = let s = called c.before in record { fits = omega (arith, inside s, s.good.0.0) }
 
 pub returns : goal.returns
-returns c = called c.before in bare_skip _ s.args.at _ s.pre refl (sym c.holds_expression.ensures ∙ c.if-holds_expression.false)
+returns c = let s = called c.before in bare_skip _ s.args.at _ s.requires refl (sym c.holds_expression.ensures ∙ c.if-holds_expression.false)

@@ -4,7 +4,7 @@ use Rattle.running.proofs.run_text.Goals as goal
 
 pub returns-in_default : goal.returns-in_default
 returns-in_default c =
-    let start = c.before.before.before.before.before.before.before.before.before.before.before.before.before.before.before.before.before.before.before in
+    let start = c in
     let load = c.load in
     let run = c.run-answer in
     let h : Answers start.args.net.now start.args.tokens.now start.args.state.now _ _ _ run.result = record { long = start.requires.in_bounds; load = load.ensures; run = run.ensures.0; begun = run.ensures.1 } in
@@ -12,8 +12,8 @@ returns-in_default c =
 
 pub returns : goal.returns
 returns c =
-    let start = c.before.before.before.before.before.before.before.before.before.before.before.before.before.before.before.before.before.before.before.before.before.before.before.before in
+    let start = c in
     let load = c.load in
-    let run = c.run in
-    let h : Answers start.args.net.now start.args.tokens.now start.args.state.now _ _ _ run.result = record { long = start.requires.0; load = load.ensures; run = run.ensures.0; begun = run.ensures.1 } in
-    text_is _ _ _ _ _ start.requires.1 (as_said _ (says_ended _ _ _ _ _ _ _ h _ _ c.answer.given.1) (then _ _ _ c.outcome-line.ensures c.state_lines.ensures))
+    let run = c.run-answer in
+    let h : Answers start.args.net.now start.args.tokens.now start.args.state.now _ _ _ run.result = record { long = start.requires.in_bounds; load = load.ensures; run = run.ensures.0; begun = run.ensures.1 } in
+    text_is _ _ _ _ _ start.requires.in_bounds_2 (as_said _ (says_ended _ _ _ _ _ _ _ h _ _ c.in-Ended.is) (then _ _ _ c.outcome_line-end.ensures c.state_lines.ensures))

@@ -14,7 +14,7 @@ bounds-types-at-in-loop-k c = simp length-set (omega arith)
 
 pub loop-k-preserved : goal.loop-k-preserved
 unfolding type_at
-loop-k-preserved c = c.args in let l = c.loop-k in (omega arith, simp length-set l.invariant.1, pair_more l.types l.k _ _ (omega arith) (λ j. type_at a.body.now (a.start + 6 * j)) l.invariant.2 (λ i. record { kind = c.byte_at.ensures i; p = c.byte_at-in-loop-k.ensures i }))
+loop-k-preserved c = let a = c.args in let l = c.loop-k in (omega arith, simp length-set l.invariant.1, pair_more l.types l.k _ _ (omega arith) (λ j. type_at a.body.now (a.start + 6 * j)) l.invariant.2 (λ i. record { kind = c.byte_at.ensures i; p = c.byte_at-in-loop-k.ensures i }))
 
 pub shape_of-types : goal.shape_of-types
 shape_of-types c = c.loop-k.invariant.1

@@ -24,8 +24,8 @@ outputs c = c.before.before.before.before.before
 
 body_of : (c : goal.After-wide-v) → (ins c ≡ get_or (start c).args.body.now 0 0) × ((outs c ≡ get_or (start c).args.body.now 1 0) × (c.wide-v.result ≡ get_or (start c).args.body.now 2 0))
 body_of c =
-    let n = c.before.before in
-    let i = n.before.before in
+    let n = c in
+    let i = n in
     (i.wide-i.ensures.0 ∙ i.byte_at.ensures, (n.wide-n.ensures.0 ∙ n.byte_at-2.ensures, c.wide-v.ensures.0 ∙ c.byte_at-3.ensures))
 
 ins-in : (c : goal.After-wide-v) → 3 + ins c ≤ length (start c).args.body.now
@@ -59,11 +59,11 @@ put_variables-requires c =
 
 pub returns : goal.returns
 returns c =
-    let v = c.before.before in
+    let v = c in
     let q = outputs v.before in
     let n = q.before in
     let o = counted n in
     let e = body_of o in
-    let w = n.before.before in
+    let w = n in
     let s = shape_is _ _ _ _ _ _ _ e.0 e.1.0 e.1.1 _ _ _ _ _ (start o).pre.1.0 in
     s w.part.ensures.bytes q.part-2.ensures.bytes w.put_wires.ensures v.put_wires-2.ensures v.put_variables.ensures

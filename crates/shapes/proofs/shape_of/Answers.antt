@@ -8,7 +8,7 @@ use mathlib.Core.Path.{◌∙◌, ap}
 use Rattle.shapes.proofs.shape_of.Goals as goal
 
 pub shape_in-requires : goal.shape_in-requires
-shape_in-requires c = c.requires in record { wires_in_bounds = p.0; body_fits = body_fits _ _ _ _ p.1.0 c.two_at.ensures.0 c.part-body.ensures.bytes; in_bounds = p.1.1 }
+shape_in-requires c = let p = c.requires in record { wires_in_bounds = p.wires_in_bounds; body_fits = body_fits _ _ _ _ p.box_fits c.two_at.ensures.0 c.part-body.ensures.bytes; in_bounds = p.in_bounds }
 
 pub returns : goal.returns
-returns c = c.args in c.shape_in.ensures ∙ ap (λ (b : List ℕ). shape_of (wires_in a.net.now a.table.now a.wires) (box_of b)) (body_is _ _ _ _ c.two_at.ensures.0 c.part-body.ensures.bytes)
+returns c = let a = c.args in c.shape_in.ensures ∙ ap (λ (b : List ℕ). shape_of (wires_in a.net.now a.table.now a.wires) (box_of b)) (body_is _ _ _ _ c.two_at.ensures.0 c.part-body.ensures.bytes)

@@ -32,7 +32,7 @@ few c =
     omega (arith, number c, ins_few a.net.now a.table.now a.starts.now a.tokens.now a.state.now a.c (start c).requires.0 a.k.0 (start c).requires.1.0)
 
 pub box_body-body-requires : goal.box_body-body-requires
-box_body-body-requires c = c.before.before.before.before.before.before in (s.requires.0.tabled, s.requires.1.0)
+box_body-body-requires c = let s = c in record { tabled = s.requires.standing.tabled; b_lt_boxes = s.requires.k_lt_boxes }
 
 pub loop-j-init : goal.loop-j-init
 loop-j-init c = (omega arith, refl, refl, record { heads = λ i l. absurd (omega (arith, l)); values = λ i l. absurd (omega (arith, l)) }, λ vs q. q)
@@ -42,20 +42,20 @@ overflow_add-j c = omega (arith, few c.before.before)
 
 pub wire_part-part-requires : goal.wire_part-part-requires
 wire_part-part-requires c =
-    let l = c.before.before in
+    let l = c in
     let n = l.before in
     let a = (start n).args in
     let w = in-wire-is a.net.now a.table.now a.c (start n).requires.0.tabled a.k.0 (start n).requires.1.0 (body n).box-body.result.now l.loop-j.j c.byte_at-in-loop-j.result (body n).box-body.ensures (omega (arith, number n)) c.byte_at-in-loop-j.ensures in
-    ((start n).requires.0, w.1)
+    record { standing = (start n).requires.0; w_lt_wires = w.1 }
 
 pub bounds-heads-j : goal.bounds-heads-j
-bounds-heads-j c = c.before.before.before.before.before.before in omega (arith, few l.before, l.loop.invariant.1, (start l.before).pre.1.1.0)
+bounds-heads-j c = let l = c in omega (arith, few l.before, l.loop-j.invariant.1, (start l.before).pre.1.1.0)
 
 pub offset_bounds-vals-j : goal.offset_bounds-vals-j
 offset_bounds-vals-j c = omega (arith, few c.before.before.before.before.before.before.before)
 
 pub bounds-vals-j : goal.bounds-vals-j
-bounds-vals-j c = c.before.before.before.before.before.before in omega (arith, few l.before, l.loop.invariant.2, (start l.before).pre.1.1.1.long)
+bounds-vals-j c = let l = c in omega (arith, few l.before, l.loop-j.invariant.2, (start l.before).pre.1.1.1.long)
 
 pub overflow_add-j-in-loop-j : goal.overflow_add-j-in-loop-j
 overflow_add-j-in-loop-j c = omega (arith, few c.before.before.before.before.before.before.before)
@@ -65,9 +65,9 @@ loop-j-smaller c = omega arith
 
 pub loop-j-preserved : goal.loop-j-preserved
 loop-j-preserved c =
-    let token = c.before.before in
-    let wire = token.before.before in
-    let l = wire.before.before in
+    let token = c in
+    let wire = token in
+    let l = wire in
     let n = l.before in
     let a = (start n).args in
     let t = token.oldest-value.result in

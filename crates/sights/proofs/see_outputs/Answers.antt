@@ -31,7 +31,7 @@ few c =
     omega (arith, number c, outs_few a.net.now a.table.now a.starts.now a.tokens.now a.state.now a.c (start c).requires.0 a.k.0 (start c).requires.1.0)
 
 pub box_body-body-requires : goal.box_body-body-requires
-box_body-body-requires c = c.before.before.before.before.before.before in (s.requires.0.tabled, s.requires.1.0)
+box_body-body-requires c = let s = c in record { tabled = s.requires.standing.tabled; b_lt_boxes = s.requires.k_lt_boxes }
 
 pub loop-j-init : goal.loop-j-init
 loop-j-init c = (omega arith, refl, record { each = λ i l. absurd (omega (arith, l)) })
@@ -41,14 +41,14 @@ overflow_add-first-in-loop-j c = omega (arith, c.wide-first.ensures.1, few c.bef
 
 pub wire_part-requires : goal.wire_part-requires
 wire_part-requires c =
-    let l = c.before.before in
+    let l = c in
     let n = l.before in
     let a = (start n).args in
     let w = out_wire_is a.net.now a.table.now a.c (start n).requires.0.tabled a.k.0 (start n).requires.1.0 (body n).box-body.result.now n.wide-first.result l.loop-j.j c.byte_at-in-loop-j.result (body n).box-body.ensures (n.wide-first.ensures.0 ∙ n.byte_at.ensures) (omega (arith, number n)) c.byte_at-in-loop-j.ensures in
     record { standing = (start n).requires.0; w_lt_wires = w.1 }
 
 pub bounds-full-j : goal.bounds-full-j
-bounds-full-j c = c.before.before.before.before in omega (arith, few l.before, l.loop.invariant.1, (start l.before).pre.1.1)
+bounds-full-j c = let l = c in omega (arith, few l.before, l.loop-j.invariant.1, (start l.before).pre.1.1)
 
 pub overflow_add-j : goal.overflow_add-j
 overflow_add-j c = omega (arith, few c.before.before.before.before.before)
@@ -58,8 +58,8 @@ loop-j-smaller c = omega arith
 
 pub loop-j-preserved : goal.loop-j-preserved
 loop-j-preserved c =
-    let wire = c.before.before in
-    let l = wire.before.before in
+    let wire = c in
+    let l = wire in
     let n = l.before in
     let a = (start n).args in
     let q = fulls_next (net_in a.net.now a.table.now a.c a.tokens.now) (state_of a.net.now a.table.now a.c a.tokens.now a.state.now) _ l.loop-j.j wire.byte_at-in-loop-j.result c.wire_part.result.now (wire.byte_at-in-loop-j.ensures ∙ sym (get_or-drop _ (body n).box-body.result.now l.loop-j.j 0)) c.wire_part.ensures l.loop-j.full c.is_full.result

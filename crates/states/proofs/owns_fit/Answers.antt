@@ -24,12 +24,12 @@ overflow_cast-k c =
 
 pub own_fits-requires : goal.own_fits-requires
 own_fits-requires c =
-    let start = c.before.before.before.before.before.before.before.before.before.before in
+    let start = c in
     record { tabled = start.requires.tabled; placed = start.requires.placed; known = start.requires.known; k_bound = c.loop-k-test.true; c_in_bounds = start.requires.c_in_bounds }
 
 pub returns-then-not-own_fits : goal.returns-then-not-own_fits
 returns-then-not-own_fits c =
-    let start = c.before.before.before.before.before.before.before.before.before.before.before.before in
+    let start = c in
     let l = c.loop-k in
     let less = c.loop-k-test.true in
     let long = procs_n start.args.net.now start.args.table.now start.args.c start.requires.tabled start.args.tokens.now in
@@ -46,7 +46,7 @@ loop-k-smaller c =
 
 pub loop-k-preserved : goal.loop-k-preserved
 loop-k-preserved c =
-    let start = c.before.before.before.before.before.before.before.before.before.before.before.before in
+    let start = c in
     let l = c.loop-k in
     let less = c.loop-k-test.true in
     let long = procs_n start.args.net.now start.args.table.now start.args.c start.requires.tabled start.args.tokens.now in
@@ -55,7 +55,7 @@ loop-k-preserved c =
 
 pub returns : goal.returns
 returns c =
-    let start = c.before.before.before.before.before.before.before.before.before.before in
+    let start = c in
     let l = c.loop-k in
     let long = procs_n start.args.net.now start.args.table.now start.args.c start.requires.tabled start.args.tokens.now in
     sym (owns_done (net_in start.args.net.now start.args.table.now start.args.c start.args.tokens.now) start.args.state.now start.args.counted l.k (omega (arith, c.loop-k-test.false, long))) ∙ l.invariant.1

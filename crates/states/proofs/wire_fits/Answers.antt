@@ -8,14 +8,14 @@ use Rattle.states.proofs.wire_fits.Goals as goal
 pub wire_span-span-requires : goal.wire_span-span-requires
 unfolding bare_net
 wire_span-span-requires c =
-    let start = c.before.before.before.before in
-    (start.requires.tabled, (start.requires.placed, start.requires.w_lt_wires))
+    let start = c in
+    record { tabled = start.requires.tabled; placed = start.requires.placed; w_lt_wires = start.requires.w_lt_wires }
 
 pub wire_type-t-requires : goal.wire_type-t-requires
-wire_type-t-requires c = c.before.before.before.before.before in (start.requires.0, start.requires.1.1.0)
+wire_type-t-requires c = let start = c in record { tabled = start.requires.tabled; w_lt_wires = start.requires.w_lt_wires }
 
 pub capacity-most-requires : goal.capacity-most-requires
-capacity-most-requires c = c.before.before.before.before.before.before in (start.requires.0, start.requires.1.1.0)
+capacity-most-requires c = let start = c in record { tabled = start.requires.tabled; w_lt_wires = start.requires.w_lt_wires }
 
 pub slice_bounds-wire_fits-end : goal.slice_bounds-wire_fits-end
 unfolding bare_net
@@ -25,7 +25,7 @@ slice_bounds-wire_fits-end c =
 pub wire_fits-requires : goal.wire_fits-requires
 unfolding bare_net
 wire_fits-requires c =
-    let start = c.before.before.before.before.before.before.before.before in
+    let start = c in
     let r = c.wire_span-span in
     let y = c.wire_type-t in
     let inside : r.result.end ≤ length start.args.state.now = omega (arith, r.ensures.inside, start.requires.c_in_bounds) in
@@ -34,6 +34,6 @@ wire_fits-requires c =
 pub returns : goal.returns
 unfolding bare_net
 returns c =
-    let start = c.before.before.before.before.before.before.before.before.before in
+    let start = c in
     let r = c.wire_span-span in
     wire_part start.args.net.now start.args.table.now start.args.c start.requires.tabled start.args.w.0 r.result.start r.result.end _ _ start.args.state.now _ r.ensures.start r.ensures.end c.wire_type-t.ensures.0 c.capacity-most.ensures.0 c.wire_fits.ensures

@@ -16,12 +16,12 @@ overflow_cast-w c =
 
 pub wire_fits-requires : goal.wire_fits-requires
 wire_fits-requires c =
-    let start = c.before.before.before.before.before.before.before in
+    let start = c in
     record { tabled = start.requires.tabled; placed = start.requires.placed; w_lt_wires = c.loop-w-test.true; c_in_bounds = start.requires.c_in_bounds }
 
 pub returns-then-not-wire_fits : goal.returns-then-not-wire_fits
 returns-then-not-wire_fits c =
-    let start = c.before.before.before.before.before.before.before.before.before in
+    let start = c in
     let l = c.loop-w in
     let less = c.loop-w-test.true in
     let long = wires_n start.args.net.now start.args.table.now start.args.c start.requires.tabled in
@@ -38,7 +38,7 @@ loop-w-smaller c =
 
 pub loop-w-preserved : goal.loop-w-preserved
 loop-w-preserved c =
-    let start = c.before.before.before.before.before.before.before.before.before in
+    let start = c in
     let l = c.loop-w in
     let less = c.loop-w-test.true in
     let long = wires_n start.args.net.now start.args.table.now start.args.c start.requires.tabled in
@@ -47,7 +47,7 @@ loop-w-preserved c =
 
 pub returns : goal.returns
 returns c =
-    let start = c.before.before.before.before.before.before.before in
+    let start = c in
     let l = c.loop-w in
     let long = wires_n start.args.net.now start.args.table.now start.args.c start.requires.tabled in
     sym (wires_done (bare_net start.args.net.now start.args.table.now start.args.c) start.args.state.now l.w (unfold bare_net in omega (arith, c.loop-w-test.false, long))) ∙ l.invariant.1

@@ -8,19 +8,19 @@ pub bounds-table-c-in-2 : goal.bounds-table-c-in-2
 bounds-table-c-in-2 c = simp length-set (omega arith)
 
 pub bounds-table-c-in_default : goal.bounds-table-c-in_default
-bounds-table-c-in_default c = c.requires.room.outputs (omega arith) in omega arith
+bounds-table-c-in_default c = let o = c.requires.room.outputs (omega arith) in omega arith
 
 pub returns-in-1 : goal.returns-in-1
-returns-in-1 c = c.before.before in note_1 _ _ _ _ s.requires.1.1.0 s.requires.0 (omega arith) (s.requires.1.0.wires (omega arith))
+returns-in-1 c = let s = c in note_1 _ _ _ _ s.requires.in_bounds.0 s.requires.within (omega arith) (s.requires.room.wires (omega arith))
 
 pub returns-in-2 : goal.returns-in-2
-returns-in-2 c = c.before.before.before.before.before in note_2 _ _ _ _ s.requires.1.1.0 s.requires.0 (omega arith) (s.requires.1.0.boxes (omega arith))
+returns-in-2 c = let s = c in note_2 _ _ _ _ s.requires.in_bounds.0 s.requires.within (omega arith) (s.requires.room.boxes (omega arith))
 
 pub returns-in-3 : goal.returns-in-3
-returns-in-3 c = c.before.before.before.before in note_3 _ _ _ _ s.requires.1.1.0 s.requires.0 (omega arith) (s.requires.1.0.rules (omega arith)) (s.requires.1.0.owned (omega arith))
+returns-in-3 c = let s = c in note_3 _ _ _ _ s.requires.in_bounds.0 s.requires.within (omega arith) (s.requires.room.rules (omega arith)) (s.requires.room.owned (omega arith))
 
 pub returns-in-4 : goal.returns-in-4
-returns-in-4 c = c.before.before.before in note_4 _ _ _ _ s.requires.1.1.0 s.requires.0 (omega arith) (s.requires.1.0.inputs (omega arith))
+returns-in-4 c = let s = c in note_4 _ _ _ _ s.requires.in_bounds.0 s.requires.within (omega arith) (s.requires.room.inputs (omega arith))
 
 pub returns-in_default : goal.returns-in_default
-returns-in_default c = c.before.before.before in note_5 _ _ _ _ s.requires.1.1.0 s.requires.0 (omega arith) (s.requires.1.0.outputs (omega arith))
+returns-in_default c = let s = c in note_5 _ _ _ _ s.requires.in_bounds.0 s.requires.within (omega arith) (s.requires.room.outputs (omega arith))

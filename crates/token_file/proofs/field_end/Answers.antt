@@ -7,7 +7,7 @@ use borrow.Author.Rules.{rules}
 use Rattle.token_file.proofs.field_end.Goals as goal
 
 pub returns-in_default : goal.returns-in_default
-returns-in_default c = c.args in end_cut a.tokens.now a.t a.at (sym c.field_at.ensures ∙ c.in_default.is)
+returns-in_default c = let a = c.args in end_cut a.tokens.now a.t a.at (sym c.field_at.ensures ∙ c.in_default.is)
 
 pub part-body-requires : goal.part-body-requires
 part-body-requires c =

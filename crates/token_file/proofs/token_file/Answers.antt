@@ -9,21 +9,21 @@ use Rattle.token_file.proofs.token_file.Goals as goal
 pub returns-then-tokens-gt16384 : goal.returns-then-tokens-gt16384
 unfolding bare_net
 returns-then-tokens-gt16384 c =
-    let start = c.before.before.before.before.before in
+    let start = c in
     wrong (too_long start.args.net.now start.args.table.now start.args.c start.requires.tabled start.args.tokens.now start.args.fields.now c.if-tokens-gt16384.true)
 
 pub loop-i-init : goal.loop-i-init
 loop-i-init c =
-    let start = c.before.before.before.before.before in
+    let start = c in
     (omega arith, refl, omega arith, upto_first (types_of start.args.net.now start.args.table.now start.args.c) start.args.tokens.now start.args.fields.now)
 
 pub input_type-t-requires : goal.input_type-t-requires
 input_type-t-requires c =
-    let start = c.before.before.before.before.before.before.before.before in
-    (start.requires.tabled, c.loop-i-test.true)
+    let start = c in
+    record { tabled = start.requires.tabled; i_lt_inputs = c.loop-i-test.true }
 
 pub field_end-end-requires : goal.field_end-end-requires
-field_end-end-requires c = (c.input_type-t.ensures.1.low, c.input_type-t.ensures.1.high)
+field_end-end-requires c = record { le_p = c.input_type-t.ensures.1.low; p_bound = c.input_type-t.ensures.1.high }
 
 pub shape_of-fields-then-end-eq0 : goal.shape_of-fields-then-end-eq0
 shape_of-fields-then-end-eq0 c =
@@ -33,7 +33,7 @@ pub returns-then-end-eq0 : goal.returns-then-end-eq0
 unfolding bare_net
 returns-then-end-eq0 c =
     let l = c.loop-i in
-    let start = c.before.before.before.before.before.before.before.before.before.before.before in
+    let start = c in
     let types = types_of start.args.net.now start.args.table.now start.args.c in
     let y = c.input_type-t in
     let less = c.loop-i-test.true in
@@ -64,7 +64,7 @@ loop-i-smaller c =
 pub loop-i-preserved : goal.loop-i-preserved
 loop-i-preserved c =
     let l = c.loop-i in
-    let start = c.before.before.before.before.before.before.before.before.before.before.before in
+    let start = c in
     let types = types_of start.args.net.now start.args.table.now start.args.c in
     let y = c.input_type-t in
     let less = c.loop-i-test.true in
@@ -80,7 +80,7 @@ pub returns-then-rest-tokens : goal.returns-then-rest-tokens
 unfolding bare_net
 returns-then-rest-tokens c =
     let l = c.loop-i in
-    let start = c.before.before.before.before.before.before.before.before.before in
+    let start = c in
     wrong (extra_there start.args.net.now start.args.table.now start.args.c start.requires.tabled start.args.tokens.now l.fields l.at l.i l.invariant.3 c.if-tokens-gt16384.false c.loop-i-test.false c.if-rest-tokens.true)
 
 pub shape_of-fields : goal.shape_of-fields
@@ -91,7 +91,7 @@ pub returns : goal.returns
 unfolding bare_net
 returns c =
     let l = c.loop-i in
-    let start = c.before.before.before.before.before.before.before.before.before in
+    let start = c in
     let done = c.loop-i-test.false in
     right (good_tokens start.args.net.now start.args.table.now start.args.c start.requires.tabled start.args.tokens.now l.fields l.at l.i l.invariant.3 c.if-tokens-gt16384.false done c.if-rest-tokens.false)
     (good_fields start.args.net.now start.args.table.now start.args.c start.requires.tabled start.args.tokens.now l.fields l.at l.i l.invariant.3 c.if-tokens-gt16384.false (omega (arith, done, l.invariant.0)) (omega (arith, start.requires.tabled.within, start.requires.in_bounds, l.invariant.0, l.invariant.1)) c.if-rest-tokens.false)

@@ -5,6 +5,6 @@ use Rattle.tokens.proofs.field_out.Goals as goal
 
 pub returns : goal.returns
 returns c =
-    let h = c.before.before.before.before.before.before.before in
+    let h = c in
     let e = h.two_at-n.ensures.0 in
     (ap (λ (n : ℕ). 3 + 5 * n) e, field_stores _ _ _ _ _ e h.put_head.ensures c.copy.ensures)

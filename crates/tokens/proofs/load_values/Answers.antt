@@ -14,10 +14,10 @@ loop-j-init c =
 pub loop-j-preserved : goal.loop-j-preserved
 loop-j-preserved c =
     let l = c.loop-j in
-    let p = c.before.before in
+    let p = c in
     let b = c.args.body in
     let z = back (omega arith) ∙ p.value_at-z.ensures.0 ∙ ap (λ (n : ℕ). value_at b.now (n + 2)) p.variable_start-at.ensures.0 in
     (omega arith, l.invariant.1, l.invariant.2, p.put_var.auto.0 ∙ l.invariant.3, p.put_var.ensures ∙ load_turn _ _ _ l.j _ l.invariant.4 z)
 
 pub returns : goal.returns
-returns c = c.loop-j in load_done _ _ _ l.j l.invariant.4 (omega arith) (omega arith)
+returns c = let l = c.loop-j in load_done _ _ _ l.j l.invariant.4 (omega arith) (omega arith)

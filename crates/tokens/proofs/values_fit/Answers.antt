@@ -16,7 +16,7 @@ loop-j-init c =
 pub within-requires : goal.within-requires
 within-requires c =
     let l = c.loop-j in
-    let s = c.before.before.before.before.before.before.before.before.before in
+    let s = c in
     precise_at s.args.body.now l.j _ _ s.requires (omega arith) c.variable_start.ensures.0 c.type_at-t.ensures
 
 -- one variable

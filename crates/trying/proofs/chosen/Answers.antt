@@ -7,11 +7,11 @@ actions_fault-f-requires c =
     let h = c.requires in
     let w = h.work in
     let r = outs_ready _ _ _ _ w _ h.outs in
-    (w.outs, (r.limits, (r.typed, w.env)))
+    record { n_bound = w.outs; b_value = r.limits; b_value_2 = r.typed; env_fits = w.env }
 
 pub returns-in-Fault : goal.returns-in-Fault
 returns-in-Fault c =
-    let d = c.before.before.before in
+    let d = c in
     let h = d.requires in
     chosen_outs _ _ _ _ h.work _ _ _ h.outs h.sets _ (sym c.in-Fault.is ∙ d.actions_fault-f.ensures)
 
@@ -20,18 +20,18 @@ actions_fault-g-requires c =
     let h = c.requires in
     let w = h.work in
     let r = sets_ready _ _ _ _ w _ h.sets in
-    (w.vars, (r.limits, (r.typed, w.env)))
+    record { n_bound = w.vars; b_value = r.limits; b_value_2 = r.typed; env_fits = w.env }
 
 pub returns-in-Fault-g : goal.returns-in-Fault-g
 returns-in-Fault-g c =
-    let e = c.before.before.before in
-    let d = e.before.before.before in
+    let e = c in
+    let d = e in
     let h = d.requires in
     chosen_sets _ _ _ _ h.work _ _ _ h.outs h.sets _ (sym e.in_default.is ∙ d.actions_fault-f.ensures) (sym c.in-Fault-g.is ∙ e.actions_fault-g.ensures)
 
 pub returns : goal.returns
 returns c =
-    let e = c.before.before in
-    let d = e.before.before.before in
+    let e = c in
+    let d = e in
     let h = d.requires in
     chosen_fires _ _ _ _ h.work _ _ _ h.outs h.sets (sym e.in_default.is ∙ d.actions_fault-f.ensures) (sym c.in_default-g.is ∙ e.actions_fault-g.ensures)

@@ -10,7 +10,7 @@ use Rattle.trying.proofs.Judging.{guard_ready, judge_shut, Opened, opened, judge
 use Rattle.trying.proofs.judge.Goals as goal
 
 pub skip-outs-requires : goal.skip-outs-requires
-skip-outs-requires c = c.requires in guard_there _ _ _ h.work.laid _ h.guard
+skip-outs-requires c = let h = c.requires in guard_there _ _ _ h.work.laid _ h.guard
 
 -- where the output actions begin
 outs_at_lem : (c : goal.After-skip-outs) → c.skip-outs.result ≡ c.requires.work.parts.outs
@@ -22,7 +22,7 @@ open_at : (c : goal.In-Open)
     let a = h.args.a in
     Opened (env_in h.args.vals.now h.args.types.now) h.args.full.now (rule_read (read_rule a.ins a.outs a.vars h.args.b.now)) h.requires.work.parts.sets c.in-Open.sets
 open_at c =
-    let d = c.before.before.before in
+    let d = c in
     let h = d.requires in
     opened _ _ _ _ h.work _ _ _ h.guard _ _ (outs_at_lem d.before) (sym c.in-Open.is ∙ d.outs_open.ensures)
 
@@ -31,7 +31,7 @@ outs_open-requires c = outs_there _ _ _ c.requires.work.laid _ (outs_at_lem c)
 
 pub returns-in_default : goal.returns-in_default
 returns-in_default c =
-    let d = c.before.before in
+    let d = c in
     let h = d.requires in
     judge_shut _ _ _ _ h.work _ _ _ h.guard _ (outs_at_lem d.before) (sym c.in_default.is ∙ d.outs_open.ensures)
 
@@ -43,7 +43,7 @@ value-requires c =
 
 pub returns-then-not-is_true : goal.returns-then-not-is_true
 returns-then-not-is_true c =
-    let d = c.before.before.before.before.before in
+    let d = c in
     let o = d.before in
     let h = o.requires in
     judge_false _ _ _ _ h.work _ _ _ h.guard _ (open_at o) _ _ (sym c.in-Value.is ∙ d.value.ensures) (ap is_true (sym (back {z = c.in-Value.value} (omega arith))) ∙ sym c.is_true.ensures ∙ not-true _ c.if-not-is_true.true)
@@ -56,14 +56,14 @@ chosen-requires c =
 
 pub returns-in-Fault : goal.returns-in-Fault
 returns-in-Fault c =
-    let d = c.before.before.before in
+    let d = c in
     let o = d.before in
     let h = o.requires in
     judge_fault _ _ _ _ h.work _ _ _ h.guard _ (open_at o) _ (sym c.in-Fault.is ∙ d.value.ensures)
 
 pub returns-else-not-is_true : goal.returns-else-not-is_true
 returns-else-not-is_true c =
-    let d = c.before.before.before.before.before.before in
+    let d = c in
     let o = d.before in
     let h = o.requires in
     judge_true _ _ _ _ h.work _ _ _ h.guard _ (open_at o) _ _ (sym c.in-Value.is ∙ d.value.ensures) (ap is_true (sym (back {z = c.in-Value.value} (omega (arith, c.in-Value.known_told-in-Value-1-own)))) ∙ sym c.is_true.ensures ∙ not-false _ c.if-not-is_true.false) c.chosen.ensures

@@ -2,36 +2,30 @@ use mathlib.Core.Path.{◌≡◌, refl, sym, ap, ◌∙◌}
 use mathlib.Core.List.{List}
 use Prim.Native.Nat.{ℕ, ◌<◌}
 use native.Mathlib.Omega.{arith}
-use lib.IntN.{ℤ}
 use borrow.Author.Rules.{rules}
 use borrow.Author.Tests.{not-true, not-false}
 use Rattle.model.specs.Rules.{rule_read, read_rule}
 use Rattle.model.specs.NetworkFile.{body_at, rule_at}
-use Rattle.model.specs.Cycles.{Mark, quiet, fires, faulty}
-use Rattle.table.specs.declared.Counts.{Counts}
+use Rattle.model.specs.Cycles.{quiet, fires, faulty}
 use Rattle.table.specs.Table.{index_in}
-use Rattle.shapes.specs.declared.Arity.{Arity}
 use Rattle.shapes.specs.Shapes.{types_in}
 use Rattle.trying.specs.Views.{try_on, mark_as}
 use Rattle.trying.specs.Working.{Ruled}
 use Rattle.trying.proofs.Searching.{from, ended, size_small, first_quiet, first_fires, first_faulty, first_none, before_first, stands_here, not_ready, one_ready, guard_here, trial_quiet, trial_fires, trial_faulty}
+use Rattle.trying.proofs.search.Invariants.{trial}
 use Rattle.trying.proofs.search.Goals as goal
 
--- what comes of rule r
-abbrev trial : List ℕ → List ℕ → Counts → ℕ → Arity → List ℕ → List ℕ → List ℕ → List ℕ → List ℤ → ℕ → Mark
-trial s t d k a ins vars heads full vals r = try_on (types_in ins a.ins) (types_in vars a.vars) heads full vals (rule_read (read_rule a.ins a.outs a.vars (body_at s (rule_at (index_in t d) k r)))) r
-
 pub overflow_add-patterns : goal.overflow_add-patterns
-overflow_add-patterns c = c.requires.rules in omega (arith, h.few_ins, h.few_vars)
+overflow_add-patterns c = let h = c.requires.rules in omega (arith, h.few_ins, h.few_vars)
 
 pub rules-init : goal.rules-init
 rules-init c = (omega arith, refl)
 
 pub overflow_cast-r : goal.overflow_cast-r
-overflow_cast-r c = c.requires.rules in omega (arith, h.few, c.if-count-r.false)
+overflow_cast-r c = let h = c.requires.rules in omega (arith, h.few, c.if-count-r.false)
 
 pub rule_body-body-requires : goal.rule_body-body-requires
-rule_body-body-requires c = c.requires.rules in (h.tabled, (h.known, omega (arith, h.there, c.if-count-r.false)))
+rule_body-body-requires c = let h = c.requires.rules in record { tabled = h.tabled; b_lt_boxes = h.known; r_in_bounds = omega (arith, h.there, c.if-count-r.false) }
 
 -- the body that was found is that of the rule, and can be worked out
 body_is : (c : goal.After-rule_body-body)
@@ -75,10 +69,10 @@ port_ready-requires c =
     record { at_in_bounds = s.inside; j_bound = (omega (arith, c.loop-j-test.true, w.few_ins, w.few_vars), w.few_ins); j_bound_2 = omega (arith, c.loop-j-test.true, w.few_vars) }
 
 pub overflow_add-r : goal.overflow_add-r
-overflow_add-r c = c.before.before.before in omega (arith, (outer l).0, l.before.before.before.before.before.before.before.before.before.before.before.requires.0.few)
+overflow_add-r c = let l = c.before.before.before in omega (arith, (outer l).0, l.requires.rules.few)
 
 pub rules-smaller-then-not-port_ready : goal.rules-smaller-then-not-port_ready
-rules-smaller-then-not-port_ready c = c.before.before.before in omega (arith, (outer l).0, l.loop.invariant.0)
+rules-smaller-then-not-port_ready c = let l = c.before.before.before in omega (arith, (outer l).0, l.loop-j.invariant.0)
 
 pub rules-preserved-then-not-port_ready : goal.rules-preserved-then-not-port_ready
 rules-preserved-then-not-port_ready c =
@@ -89,15 +83,15 @@ rules-preserved-then-not-port_ready c =
 
 pub overflow_add-at : goal.overflow_add-at
 overflow_add-at c =
-    let e = c.before.before in
-    let l = e.before.before.before in
+    let e = c in
+    let l = e in
     let s = stands_here _ _ _ _ (ruled-here l.before) _ _ _ _ l.loop-j.invariant.2 e.loop-j-test.true in
     omega (arith, s.inside, c.pattern_size-size.ensures, size_small c.byte_at.result)
 
 pub loop-j-preserved : goal.loop-j-preserved
 loop-j-preserved c =
-    let e = c.before.before in
-    let l = e.before.before.before in
+    let e = c in
+    let l = e in
     let i = l.loop-j.invariant in (
       i.0,
       omega (arith, e.loop-j-test.true),
@@ -106,22 +100,22 @@ loop-j-preserved c =
 
 pub settle-requires : goal.settle-requires
 settle-requires c =
-    let l = c.before in
+    let l = c in
     let w = ruled-here l.before in
     record { ruled = w; guard = guard_here _ _ _ _ w _ _ _ _ l.loop-j.invariant.2 c.loop-j-test.false; small = l.requires.smalls }
 
 pub overflow_cast-found : goal.overflow_cast-found
-overflow_cast-found c = c.before.before.before.before in omega (arith, (outer l).0, l.before.before.before.before.before.before.before.before.before.before.before.requires.0.few)
+overflow_cast-found c = let l = c.before.before.before.before in omega (arith, (outer l).0, l.requires.rules.few)
 
 pub overflow_add-r-in-rules : goal.overflow_add-r-in-rules
-overflow_add-r-in-rules c = c.before.before.before.before in omega (arith, (outer l).0, l.before.before.before.before.before.before.before.before.before.before.before.requires.0.few)
+overflow_add-r-in-rules c = let l = c.before.before.before.before in omega (arith, (outer l).0, l.requires.rules.few)
 
 pub rules-smaller : goal.rules-smaller
-rules-smaller c = c.before.before.before.before in omega (arith, (outer l).0, l.loop.invariant.0)
+rules-smaller c = let l = c.before.before.before.before in omega (arith, (outer l).0, l.loop-j.invariant.0)
 
 pub rules-preserved : goal.rules-preserved
 rules-preserved c =
-    let s = c.before.before in
+    let s = c in
     let l = s.before.before in
     let o = outer l in
     let q = trial_quiet _ _ _ _ (ruled-here l.before) _ _ _ _ l.loop-j.invariant.2 s.loop-j-test.false _ l.loop-j.r (sym c.in-Quiet.is ∙ s.settle.ensures) in
@@ -129,12 +123,12 @@ rules-preserved c =
 
 pub returns-then-count-r : goal.returns-then-count-r
 unfolding mark_as
-returns-then-count-r c = c.rules in ap mark_as (ended _ _ i.r quiet i.invariant.1 (first_none _ _ i.r c.if-count-r.true))
+returns-then-count-r c = let i = c.rules in ap mark_as (ended _ _ i.r quiet i.invariant.1 (first_none _ _ i.r c.if-count-r.true))
 
 pub returns-in-Fires : goal.returns-in-Fires
 unfolding mark_as
 returns-in-Fires c =
-    let s = c.before.before in
+    let s = c in
     let l = s.before.before in
     let o = outer l in
     let q = trial_fires _ _ _ _ (ruled-here l.before) _ _ _ _ l.loop-j.invariant.2 s.loop-j-test.false _ l.loop-j.r (sym c.in-Fires.is ∙ s.settle.ensures) in
@@ -143,7 +137,7 @@ returns-in-Fires c =
 pub returns-in-Faulty : goal.returns-in-Faulty
 unfolding mark_as
 returns-in-Faulty c =
-    let s = c.before.before.before in
+    let s = c in
     let l = s.before.before in
     let o = outer l in
     let q = trial_faulty _ _ _ _ (ruled-here l.before) _ _ _ _ l.loop-j.invariant.2 s.loop-j-test.false _ l.loop-j.r _ (sym c.in-Faulty.is ∙ s.settle.ensures) in

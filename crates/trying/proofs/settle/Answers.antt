@@ -5,7 +5,7 @@ use Rattle.trying.proofs.settle.Goals as goal
 pub scope-types-requires : goal.scope-types-requires
 scope-types-requires c =
     let w = c.requires.ruled in
-    ((w.few_ins, w.few_vars), ins_read _ _ _ w.laid)
+    record { ins_bound = (w.few_ins, w.few_vars); b_value = ins_read _ _ _ w.laid }
 
 pub judge-requires : goal.judge-requires
 judge-requires c =

@@ -25,26 +25,26 @@ pub type_at-t-requires : goal.type_at-t-requires
 type_at-t-requires c = omega (arith, leaf_inside (leaf c.before), (start c.before).well-formed.0.0)
 
 pub within-fits-requires : goal.within-fits-requires
-within-fits-requires c = c.before.before in leaf_precise (leaf o.before.before) o.before.if1.true (start o.before.before).requires.1.1.0 o.type_at_lem.ensures
+within-fits-requires c = let o = c in leaf_precise (leaf o.before.before) o.if-c-eq0.true (start o.before.before).requires.1.1.0 o.type_at-t.ensures
 
 pub returns-then-c-eq0 : goal.returns-then-c-eq0
 returns-then-c-eq0 c =
-    let w = c.before in
-    let v = w.before.before in
+    let w = c in
+    let v = w in
     let l = v.before.before.before in
     let e = leaf_literal (leaf l) (scope_in (start l).args.types.now) v.if-c-eq0.true v.type_at-t.ensures v.value_at-z.ensures.0 in
     c.judge.ensures ∙ e (back (omega (arith, v.value_at-z.ensures.1))) w.is_plain-plain.ensures w.within-fits.ensures
 
 pub returns-then-c-eq1 : goal.returns-then-c-eq1
 returns-then-c-eq1 c =
-    let n = c.before.before in
-    let i = n.before.before in
+    let n = c in
+    let i = n in
     let l = i.before.before in
     c.judge-then-c-eq1.ensures ∙ leaf_matched (leaf l) (start l).args.types.now i.byte_at-i.ensures n.if-c-eq1.true n.named-t.ensures c.is_plain.ensures
 
 pub returns : goal.returns
 returns c =
-    let n = c.before.before in
-    let i = n.before.before in
+    let n = c in
+    let i = n in
     let l = i.before.before in
     c.judge-2.ensures ∙ leaf_variable (leaf l) (start l).args.types.now i.byte_at-i.ensures i.if-c-eq0.false n.if-c-eq1.false n.named-t-2.ensures c.is_plain-2.ensures

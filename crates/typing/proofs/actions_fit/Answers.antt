@@ -12,7 +12,7 @@ use Rattle.typing.proofs.actions_fit.Goals as goal
 
 pub loop-k-init : goal.loop-k-init
 loop-k-init c =
-    let s = c.before.before in
+    let s = c in
     let a = s.args in
     (omega arith, (ap (λ j. limits_of (actions_from a.var j a.from a.b.now)) (minus_zero a.n) ∙ s.requires.b_value, acts_start a.var a.b.now (scope_in a.types.now) a.table.now a.n a.from))
 
@@ -28,7 +28,7 @@ action_fits-f-requires c =
     let a = c.args in
     let i = c.loop-k in
     let e = sym c.action_end.ensures ∙ c.in-Bytes.is in
-    (action_inside a.var a.b.now i.at _ e, (first_limits a.var a.b.now (a.n - i.k) i.at _ (omega arith) i.invariant.1.0 e).0)
+    record { at_in_bounds = action_inside a.var a.b.now i.at _ e; b_value = (first_limits a.var a.b.now (a.n - i.k) i.at _ (omega arith) i.invariant.1.0 e).0 }
 
 pub returns-in_default-f : goal.returns-in_default-f
 returns-in_default-f c =

@@ -14,19 +14,19 @@ pub returns-then-not-expression_limits : goal.returns-then-not-expression_limits
 returns-then-not-expression_limits c = guard_over _ _ _ c.requires _ (omega arith) (omega arith) (sym c.expression_limits.ensures ∙ not-true _ c.if-not-expression_limits.true)
 
 pub actions_keep-sent-requires : goal.actions_keep-sent-requires
-actions_keep-sent-requires c = c.before.before.before.before.before in outs_read _ _ _ s.requires s.args.seen
+actions_keep-sent-requires c = let s = c in outs_read _ _ _ s.requires s.args.seen
 
 pub returns-in_default : goal.returns-in_default
 returns-in_default c =
-    let g = c.before.before.before in
+    let g = c in
     c.in_default.is
     ∙ sent_over _ _ _ g.requires _ (omega arith) (omega arith) (sym g.expression_limits.ensures ∙ not-false _ g.if-not-expression_limits.false) _ (sym c.in_default.is ∙ c.actions_keep-sent.ensures)
 
 pub actions_keep-requires : goal.actions_keep-requires
-actions_keep-requires c = c.before.before.before.before.before.before.before.before in sets_read _ _ _ s.requires s.args.seen
+actions_keep-requires c = let s = c in sets_read _ _ _ s.requires s.args.seen
 
 pub returns : goal.returns
 returns c =
-    let g = c.before.before.before.before in
+    let g = c in
     c.actions_keep.ensures
     ∙ sets_left _ _ _ g.requires _ (omega arith) (omega arith) (sym g.expression_limits.ensures ∙ not-false _ g.if-not-expression_limits.false) (sym c.in-Fits.is ∙ c.actions_keep-sent.ensures)

@@ -18,7 +18,7 @@ returns-then-n-k c = sym (matched_none _ _ _ _ c.if-n-k.true)
 
 pub loop-j-init : goal.loop-j-init
 loop-j-init c =
-    let s = c.before.before.before in
+    let s = c in
     let a = s.args in
     (omega arith, (ap (λ j. is_read (patterns_from false j 0 a.b.now)) (minus_zero a.n) ∙ s.requires.b_value, matched_start a.b.now a.ins.now a.n a.k))
 

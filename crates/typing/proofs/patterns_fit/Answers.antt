@@ -13,7 +13,7 @@ use Rattle.typing.proofs.patterns_fit.Goals as goal
 
 pub loop-k-init : goal.loop-k-init
 loop-k-init c =
-    let s = c.before.before in
+    let s = c in
     let a = s.args in
     (omega arith, (ap (λ j. is_read (patterns_from a.var j a.from a.b.now)) (minus_zero a.n) ∙ s.requires.b_value, fit_start a.var a.b.now a.types.now a.n a.from))
 
@@ -26,7 +26,7 @@ returns-in_default c =
 
 pub pattern_fits-requires : goal.pattern_fits-requires
 pattern_fits-requires c =
-    let s = c.before.before.before.before.before.before.before.before.before in
+    let s = c in
     let a = s.args in
     let i = c.loop-k in
     record { at_in_bounds = pattern_inside a.var a.b.now i.at _ (sym c.pattern_end.ensures ∙ c.in-Bytes.is); le_p = precise_at a.types.now a.n i.k _ s.requires.precise (omega arith) c.entry.ensures }

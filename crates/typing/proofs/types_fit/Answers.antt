@@ -6,14 +6,14 @@ use Rattle.typing.proofs.types_fit.Goals as goal
 
 pub patterns_fit-first-requires : goal.patterns_fit-first-requires
 patterns_fit-first-requires c =
-    let s = c.before.before.before.before in
+    let s = c in
     let a = s.args in
     let x = laid a.a a.b.now a.p s.requires.b_value in
-    (s.requires.ins_bound.0, (ins_read a.a a.b.now a.p x, s.requires.precise.0))
+    record { n_bound = s.requires.ins_bound.0; b_value = ins_read a.a a.b.now a.p x; precise = s.requires.precise.0 }
 
 pub returns-in_default : goal.returns-in_default
 returns-in_default c =
-    let s = c.before.before.before.before.before.before.before in
+    let s = c in
     let a = s.args in
     let x = laid a.a a.b.now a.p s.requires.b_value in
     c.in_default.is
@@ -22,14 +22,14 @@ returns-in_default c =
 
 pub patterns_fit-second-requires : goal.patterns_fit-second-requires
 patterns_fit-second-requires c =
-    let s = c.before.before.before.before.before.before.before in
+    let s = c in
     let a = s.args in
     let x = laid a.a a.b.now a.p s.requires.b_value in
-    (s.requires.ins_bound.2, (vars_read a.a a.b.now a.p x, s.requires.precise.1))
+    record { n_bound = s.requires.ins_bound.2; b_value = vars_read a.a a.b.now a.p x; precise = s.requires.precise.1 }
 
 pub returns-in_default-second : goal.returns-in_default-second
 returns-in_default-second c =
-    let s = c.before.before.before.before.before.before.before.before.before.before in
+    let s = c in
     let a = s.args in
     let x = laid a.a a.b.now a.p s.requires.b_value in
     c.in_default-second.is
@@ -38,14 +38,14 @@ returns-in_default-second c =
 
 pub scope-types-requires : goal.scope-types-requires
 scope-types-requires c =
-    let s = c.before.before.before.before.before.before.before.before.before.before in
+    let s = c in
     let a = s.args in
     let x = laid a.a a.b.now a.p s.requires.b_value in
-    ((s.requires.ins_bound.0, s.requires.ins_bound.2), ins_read a.a a.b.now a.p x)
+    record { ins_bound = (s.requires.ins_bound.0, s.requires.ins_bound.2); b_value = ins_read a.a a.b.now a.p x }
 
 pub returns : goal.returns
 returns c =
-    let s = c.before.before.before.before.before.before.before.before.before.before.before.before.before in
+    let s = c in
     let a = s.args in
     let x = laid a.a a.b.now a.p s.requires.b_value in
     c.expressions_fit.ensures

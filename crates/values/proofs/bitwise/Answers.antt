@@ -24,10 +24,10 @@ unfolding pattern
 n-is c = rw (to_z-of_z c.ranges.b) at c.pattern-n.ensures
 
 x_lt : (c : goal.After-pattern-n) → c.pattern-x.result < 2 ^ c.args.t.p
-x_lt c = let s = c.before.before.before in rw (x-is c) (pattern_lt s.args.t s.args.a)
+x_lt c = let s = c in rw (x-is c) (pattern_lt s.args.t s.args.a)
 
 y-lt : (c : goal.After-pattern-n) → c.pattern-y.result < 2 ^ c.args.t.p
-y-lt c = let s = c.before.before.before in rw (y-is c) (pattern_lt s.args.t s.args.b)
+y-lt c = let s = c in rw (y-is c) (pattern_lt s.args.t s.args.b)
 
 n-lt : (c : goal.After-pattern-n) → c.pattern-n.result < 32
 n-lt c = rw (n-is c) (mod_z_lt c.args.b 32 (omega arith))
@@ -39,13 +39,13 @@ pub read_back-requires : goal.read_back-requires
 read_back-requires c = record { le_p = omega arith; p_bound = omega arith; n_bound = and_below c.before }
 
 pub read_back-requires-in-16 : goal.read_back-requires-in-16
-read_back-requires-in-16 c = c.before in (omega arith, (omega arith, or_lt d.before.before.before.args.t.p d.before.before.pattern.result d.before.pattern2.result (x_lt d) (y-lt d)))
+read_back-requires-in-16 c = let d = c.before in record { le_p = omega arith; p_bound = omega arith; n_bound = or_lt d.args.t.p d.pattern-x.result d.pattern-y.result (x_lt d) (y-lt d) }
 
 pub overflow_sub-ones : goal.overflow_sub-ones
-overflow_sub-ones c = c.before.before in rw c.ones.ensures (le_ones d.before.before.before.args.t.p (and_below d))
+overflow_sub-ones c = let d = c.before.before in rw c.ones.ensures (le_ones d.args.t.p (and_below d))
 
 pub read_back-requires-in-17 : goal.read_back-requires-in-17
-read_back-requires-in-17 c = c.before.before in (omega arith, (omega arith, rw c.ones.ensures (ones_sub-lt d.before.before.before.args.t.p (bit_and d.before.before.pattern.result d.before.pattern2.result))))
+read_back-requires-in-17 c = let d = c in record { le_p = omega arith; p_bound = omega arith; n_bound = rw c.ones.ensures (ones_sub-lt d.args.t.p (bit_and d.pattern-x.result d.pattern-y.result)) }
 
 pub overflow_cast-n : goal.overflow_cast-n
 overflow_cast-n c = record { sfits = omega (arith, n-lt c.before) }
@@ -54,25 +54,25 @@ pub overflow_shl-n : goal.overflow_shl-n
 overflow_shl-n c = omega (arith, n-lt c.before)
 
 pub overflow_mul-a : goal.overflow_mul-a
-overflow_mul-a c = c.before in let a = d.before.before.before.args.a in rw (shift_need a d.pattern3.result (omega arith) (n-lt d)) (shift_fits a d.pattern3.result (omega arith) (n-lt d))
+overflow_mul-a c = let d = c.before in let a = d.args.a in rw (shift_need a d.pattern-n.result (omega arith) (n-lt d)) (shift_fits a d.pattern-n.result (omega arith) (n-lt d))
 
 pub overflow_shr-x : goal.overflow_shr-x
 overflow_shr-x c = omega (arith, n-lt c.before)
 
 pub read_back-requires-in_default : goal.read_back-requires-in_default
-read_back-requires-in_default c = c.before in (omega arith, (omega arith, lt_of_le_of_lt (div-le_self d.before.before.pattern.result (2 ^ d.pattern3.result)) (x_lt d)))
+read_back-requires-in_default c = let d = c.before in record { le_p = omega arith; p_bound = omega arith; n_bound = lt_of_le_of_lt (div-le_self d.pattern-x.result (2 ^ d.pattern-n.result)) (x_lt d) }
 
 pub returns-in-15 : goal.returns-in-15
 unfolding bitwise
-returns-in-15 c = c.before.before in rw (c.in-15.is, back c.read_back.type-inv, c.read_back.ensures, x-is d, y-is d)
+returns-in-15 c = let d = c.before.before in rw (c.in-15.is, back c.read_back.type-inv, c.read_back.ensures, x-is d, y-is d)
 
 pub returns-in-16 : goal.returns-in-16
 unfolding bitwise
-returns-in-16 c = c.before.before in rw (c.in-16.is, back c.read_back-in-16.type-inv, c.read_back-in-16.ensures, x-is d, y-is d)
+returns-in-16 c = let d = c.before.before in rw (c.in-16.is, back c.read_back-in-16.type-inv, c.read_back-in-16.ensures, x-is d, y-is d)
 
 pub returns-in-17 : goal.returns-in-17
 unfolding bitwise
-returns-in-17 c = c.before.before.before in rw (c.in-17.is, back c.read_back-in-17.type-inv, c.read_back-in-17.ensures, c.ones.ensures, x-is d, y-is d)
+returns-in-17 c = let d = c.before.before.before in rw (c.in-17.is, back c.read_back-in-17.type-inv, c.read_back-in-17.ensures, c.ones.ensures, x-is d, y-is d)
 
 pub returns-in-18 : goal.returns-in-18
 unfolding bitwise

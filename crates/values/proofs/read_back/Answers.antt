@@ -17,7 +17,7 @@ below {p} {n} h = omega (arith, pow_62 h.1.0)
 -- n - 2^p, as the machine has it
 less : (c : goal.After-power-2) → to_z w64 c.args.n -ℤ to_z w64 (of_z w64 c.power-2.result) ≡ pos c.args.n -ℤ pos (2 ^ c.args.t.p)
 less c =
-    let s = c.before.before.before.before.before.before in
+    let s = c in
     rw (to_z_pos w64 (below s.requires), pow_is s.args.t.p (omega arith) c.power-2.ensures)
 
 pub overflow_cast-x : goal.overflow_cast-x
@@ -25,21 +25,21 @@ overflow_cast-x c = record { sfits = below c.requires }
 
 pub returns-then-t-ne1 : goal.returns-then-t-ne1
 unfolding read_back signed_of
-returns-then-t-ne1 c = c.before.before in rw (to_z_pos w64 (below s.requires), ne_eqb s.args.t.kind 1 c.if-t-ne1.true)
+returns-then-t-ne1 c = let s = c in rw (to_z_pos w64 (below s.requires), ne_eqb s.args.t.kind 1 c.if-t-ne1.true)
 
 pub returns-then-x-power : goal.returns-then-x-power
 unfolding read_back signed_of
 returns-then-x-power c =
-    let s = c.before.before.before.before.before in
+    let s = c in
     let p = s.args.t.p in
     rw (to_z_pos w64 (below s.requires), eq-eqb s.args.t.kind 1 c.if-t-ne1.false, rw (to_z_pos w64 (below s.requires), pow_is (p - 1) (omega arith) c.power.ensures) at c.if-x-power.true)
 
 pub overflow_sub-result : goal.overflow_sub-result
-overflow_sub-result c = c.before.before.before.before.before.before in rw (less c) (less_fits s.args.n (2 ^ s.args.t.p) (omega arith) (pow_62 (omega arith)))
+overflow_sub-result c = let s = c in rw (less c) (less_fits s.args.n (2 ^ s.args.t.p) (omega arith) (pow_62 (omega arith)))
 
 pub returns : goal.returns
 unfolding read_back signed_of
 returns c =
-    let s = c.before.before.before.before.before.before in
+    let s = c in
     let p = s.args.t.p in
     rw (less c, to_z-of_z (less_fits s.args.n (2 ^ p) (omega arith) (pow_62 (omega arith))), eq-eqb s.args.t.kind 1 c.if-t-ne1.false, rw (to_z_pos w64 (below s.requires), pow_is (p - 1) (omega arith) c.power.ensures) at c.if-x-power.false)

@@ -6,8 +6,8 @@ use Rattle.model.proofs.Wrapping.{pattern_lt}
 use Rattle.values.proofs.wrap.Goals as goal
 
 pub read_back-requires : goal.read_back-requires
-read_back-requires c = c.before in record { le_p = omega arith; p_bound = omega arith; n_bound = rw (c.pattern-n.ensures, to_z-of_z s.ranges.x) (pattern_lt s.args.t s.args.x) }
+read_back-requires c = let s = c in record { le_p = omega arith; p_bound = omega arith; n_bound = rw (c.pattern-n.ensures, to_z-of_z s.ranges.x) (pattern_lt s.args.t s.args.x) }
 
 pub returns : goal.returns
 unfolding wrap
-returns c = c.before.before in rw (back c.read_back.type-inv, c.read_back.ensures, c.pattern-n.ensures, to_z-of_z s.ranges.x)
+returns c = let s = c in rw (back c.read_back.type-inv, c.read_back.ensures, c.pattern-n.ensures, to_z-of_z s.ranges.x)
