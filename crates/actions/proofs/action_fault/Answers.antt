@@ -1,5 +1,4 @@
 use mathlib.Core.Path.{sym, ◌∙◌}
-use borrow.Author.Tests.{not-true, not-false}
 use Rattle.types.specs.Scopes.{scope_in}
 use Rattle.evaluation.specs.Envs.{env_in}
 use Rattle.actions.specs.Acts.{fault_in}
@@ -9,7 +8,7 @@ use Rattle.actions.proofs.action_fault.Goals as goal
 pub returns-then-not-holds_expression : goal.returns-then-not-holds_expression
 returns-then-not-holds_expression c =
     let a = c.args in
-    let e = sym c.holds_expression.ensures ∙ not-true c.holds_expression.result c.if-not-holds_expression.true in
+    let e = sym c.holds_expression.ensures ∙ c.if-not-holds_expression.true in
     no_fault a.b.now a.at _ c.byte_at-c.ensures (env_in a.vals.now a.types.now) e
 
 pub value-requires : goal.value-requires
@@ -17,7 +16,7 @@ value-requires c =
     let s = c in
     let a = s.args in
     let h = c.byte_at-c.ensures in
-    let e = sym c.holds_expression.ensures ∙ not-false c.holds_expression.result c.if-not-holds_expression.false in
+    let e = sym c.holds_expression.ensures ∙ c.if-not-holds_expression.false in
     record { b_value = held_limits a.b.now a.at _ h e s.requires.b_value; b_value_2 = held_typed a.b.now a.at _ h e (scope_in a.types.now) s.requires.b_value_2; env_fits = s.requires.env_fits }
 
 pub returns-in-Value : goal.returns-in-Value
@@ -25,7 +24,7 @@ unfolding fault_in
 returns-in-Value c =
     let a = c.args in
     let o = c.holds_expression in
-    let e = sym o.ensures ∙ not-false o.result c.if-not-holds_expression.false in
+    let e = sym o.ensures ∙ c.if-not-holds_expression.false in
     held_fault a.b.now a.at _ c.byte_at-c.ensures (env_in a.vals.now a.types.now) e (sym c.in-Value.is ∙ c.value.ensures)
 
 pub returns-in-Fault : goal.returns-in-Fault
@@ -33,5 +32,5 @@ unfolding fault_in
 returns-in-Fault c =
     let a = c.args in
     let o = c.holds_expression in
-    let e = sym o.ensures ∙ not-false o.result c.if-not-holds_expression.false in
+    let e = sym o.ensures ∙ c.if-not-holds_expression.false in
     held_fault a.b.now a.at _ c.byte_at-c.ensures (env_in a.vals.now a.types.now) e (sym c.in-Fault.is ∙ c.value.ensures)

@@ -1,5 +1,4 @@
 use mathlib.Core.Path.{sym, ◌∙◌}
-use borrow.Author.Tests.{not-true, not-false}
 use Rattle.values.proofs.Machine.{back}
 use mir.Facts.{to_z-of_z}
 use Rattle.types.specs.Scopes.{scope_in}
@@ -11,7 +10,7 @@ pub returns-then-not-holds_expression : goal.returns-then-not-holds_expression
 returns-then-not-holds_expression c =
     let s = c in
     let a = s.args in
-    let e = sym c.holds_expression.ensures ∙ not-true c.holds_expression.result c.if-not-holds_expression.true in
+    let e = sym c.holds_expression.ensures ∙ c.if-not-holds_expression.true in
     to_z-of_z s.ranges.old ∙ keeps_old a.b.now a.at _ c.byte_at-c.ensures (env_in a.vals.now a.types.now) a.old e
 
 pub number-requires : goal.number-requires
@@ -19,12 +18,12 @@ number-requires c =
     let s = c in
     let a = s.args in
     let h = c.byte_at-c.ensures in
-    let e = sym c.holds_expression.ensures ∙ not-false c.holds_expression.result c.if-not-holds_expression.false in
+    let e = sym c.holds_expression.ensures ∙ c.if-not-holds_expression.false in
     record { b_value = held_limits a.b.now a.at _ h e s.requires.b_value; b_value_2 = held_typed a.b.now a.at _ h e (scope_in a.types.now) s.requires.b_value_2; env_fits = s.requires.env_fits }
 
 pub returns : goal.returns
 returns c =
     let a = c.args in
     let o = c.holds_expression in
-    let e = sym o.ensures ∙ not-false o.result c.if-not-holds_expression.false in
-    keeps_new a.b.now a.at _ c.byte_at-c.ensures (env_in a.vals.now a.types.now) a.old e (back c.number.type-inv ∙ c.number.ensures)
+    let e = sym o.ensures ∙ c.if-not-holds_expression.false in
+    keeps_new a.b.now a.at _ c.byte_at-c.ensures (env_in a.vals.now a.types.now) a.old e (back c.number.type_inv ∙ c.number.ensures)

@@ -23,7 +23,7 @@ pub returns-then-c-eq1 : goal.returns-then-c-eq1
 returns-then-c-eq1 c =
     let a = c.args in
     let h = c.byte_at-c.ensures in
-    sends_held a.b.now a.at _ h (env_in a.vals.now a.types.now) 0 (holds_one _ c.if-c-eq1.true) (back c.number-z.type-inv ∙ c.number-z.ensures)
+    sends_held a.b.now a.at _ h (env_in a.vals.now a.types.now) 0 (holds_one _ c.if-c-eq1.true) (back c.number-z.type_inv ∙ c.number-z.ensures)
 
 pub number-z-requires-then-c-eq5 : goal.number-z-requires-then-c-eq5
 number-z-requires-then-c-eq5 c =
@@ -37,7 +37,7 @@ pub returns-then-c-eq5 : goal.returns-then-c-eq5
 returns-then-c-eq5 c =
     let a = c.args in
     let h = c.byte_at-c.ensures in
-    sends_held a.b.now a.at _ h (env_in a.vals.now a.types.now) 3 (holds_five _ c.if-c-eq5.true) (back c.number-z-then-c-eq5.type-inv ∙ c.number-z-then-c-eq5.ensures)
+    sends_held a.b.now a.at _ h (env_in a.vals.now a.types.now) 3 (holds_five _ c.if-c-eq5.true) (back c.number-z-then-c-eq5.type_inv ∙ c.number-z-then-c-eq5.ensures)
 
 pub returns : goal.returns
 returns c =

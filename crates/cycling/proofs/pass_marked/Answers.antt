@@ -8,7 +8,7 @@ pub returns-then-left-eq0 : goal.returns-then-left-eq0
 returns-then-left-eq0 c = let q = c.requires in pass_spent _ _ _ _ _ _ q.standing _ _ q.told _ c.if-set-eq0.false c.if-left-eq0.true
 
 pub fire_marked-requires : goal.fire_marked-requires
-fire_marked-requires c = c.requires
+fire_marked-requires c = record { standing = c.requires.standing; fields = c.requires.fields; told = c.requires.told }
 
 pub returns : goal.returns
 returns c =

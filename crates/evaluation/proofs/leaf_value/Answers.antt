@@ -34,7 +34,7 @@ returns-then-c-eq1 c =
     let i = n in
     let l = i.before.before in
     let a = (start l).args in
-    leaf_matched (leaf l) a.vals.now a.types.now (back c.kept-z.type-inv) i.byte_at-i.ensures n.if-c-eq1.true n.named-t.ensures c.kept-z.ensures
+    leaf_matched (leaf l) a.vals.now a.types.now (back c.kept-z.type_inv) i.byte_at-i.ensures n.if-c-eq1.true n.named-t.ensures c.kept-z.ensures
 
 pub returns : goal.returns
 returns c =
@@ -42,4 +42,4 @@ returns c =
     let i = n in
     let l = i.before.before in
     let a = (start l).args in
-    leaf_variable (leaf l) a.vals.now a.types.now (back c.kept-z-2.type-inv) i.byte_at-i.ensures i.if-c-eq0.false n.if-c-eq1.false n.named-t-2.ensures c.kept-z-2.ensures
+    leaf_variable (leaf l) a.vals.now a.types.now (back c.kept-z-2.type_inv) i.byte_at-i.ensures i.if-c-eq0.false n.if-c-eq1.false n.named-t-2.ensures c.kept-z-2.ensures

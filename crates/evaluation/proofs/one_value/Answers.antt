@@ -6,14 +6,14 @@ use Rattle.evaluation.specs.Envs.{outcome_at}
 use Rattle.evaluation.proofs.one_value.Goals as goal
 
 pub wrap-requires : goal.wrap-requires
-wrap-requires c = c.requires.le_p c.if-c-eq3.true
+wrap-requires c = let need = c.requires.le_p c.if-c-eq3.true in record { le_p = need.0; p_bound = need.1 }
 
 pub returns-then-c-eq3 : goal.returns-then-c-eq3
 unfolding outcome_at
-returns-then-c-eq3 c = let s = c in rw (back c.wrap.type-inv, c.wrap.ensures, to_z-of_z s.ranges.x, eq-eqb s.args.c 3 c.if-c-eq3.true)
+returns-then-c-eq3 c = let s = c in rw (back c.wrap.type_inv, c.wrap.ensures, to_z-of_z s.ranges.x, eq-eqb s.args.c 3 c.if-c-eq3.true)
 
 pub apply_one-requires : goal.apply_one-requires
-apply_one-requires c = c.requires.le_p_2
+apply_one-requires c = let need = c.requires.le_p_2 in record { le_p = need.0; p_bound = need.1 }
 
 pub returns : goal.returns
 unfolding outcome_at

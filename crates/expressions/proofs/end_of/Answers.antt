@@ -3,7 +3,6 @@ use mathlib.Core.Bool.{true}
 use mathlib.Core.List.{List}
 use Prim.Native.Nat.{ℕ, ◌+◌, ◌≤◌}
 use native.Mathlib.Omega.{arith}
-use borrow.Author.Tests.{not-true, not-false}
 use lib.ListN.{length, drop}
 use Rattle.model.specs.Expressions.{head_fits}
 use Rattle.expressions.proofs.Reading.{ends, ends_whole, turn, halt, done, head_pos}
@@ -18,7 +17,7 @@ abbrev bytes : goal.In-loop-pending → List ℕ
 bytes c = c.args.s.now
 
 fitting : (c : goal.Else-not-head_fits) → head_fits (drop c.loop-pending.at (bytes c.before.before)) ≡ true
-fitting c = sym c.head_fits.ensures ∙ not-false _ c.if-not-head_fits.false
+fitting c = sym c.head_fits.ensures ∙ c.if-not-head_fits.false
 
 -- the head that fits ends within the bytes, and is not empty
 advance : (c : goal.After-operands) → let e = c.before.before.before in e.loop-pending.at + c.head_size-head.result ≤ length (bytes e.before.before)
@@ -34,7 +33,7 @@ pub returns-then-not-head_fits : goal.returns-then-not-head_fits
 returns-then-not-head_fits c =
     let l = c.before.before in
     let i = l.loop-pending in
-    sym (halt (bytes l) i.pending i.at l.loop-pending-test.true (sym c.head_fits.ensures ∙ not-true _ c.if-not-head_fits.true)) ∙ i.invariant.1.1
+    sym (halt (bytes l) i.pending i.at l.loop-pending-test.true (sym c.head_fits.ensures ∙ c.if-not-head_fits.true)) ∙ i.invariant.1.1
 
 pub overflow_add-pending : goal.overflow_add-pending
 overflow_add-pending c = record { fits = omega (arith, advance c, moves c, c.well_formed.0.0) }

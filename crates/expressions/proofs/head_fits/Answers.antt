@@ -3,13 +3,12 @@ use mathlib.Core.Bool.{true}
 use Prim.Native.Nat.{◌-◌, ◌≤◌}
 use native.Mathlib.Omega.{arith}
 use lib.ListN.{length}
-use borrow.Author.Tests.{not-true, not-false}
 use Rattle.model.specs.Expressions.{head_size, known_code}
 use Rattle.expressions.proofs.Heads.{fits_none, fits_unknown, fits_cut, fits_kind, fits_plain}
 use Rattle.expressions.proofs.head_fits.Goals as goal
 
 known : (c : goal.Else-not-known_code) → known_code c.byte_at-c.result ≡ true
-known c = sym c.known_code.ensures ∙ not-false _ c.if-not-known_code.false
+known c = sym c.known_code.ensures ∙ c.if-not-known_code.false
 
 -- the bytes that are left hold the head
 roomy : (c : goal.Else-left-head_size) → let b = c in head_size b.byte_at-c.result ≤ length b.args.s.now - b.args.at
@@ -22,7 +21,7 @@ pub returns-then-not-known_code : goal.returns-then-not-known_code
 returns-then-not-known_code c =
     let b = c in
     let a = b.args in
-    sym (fits_unknown a.s.now a.at _ b.byte_at-c.ensures (sym c.known_code.ensures ∙ not-true _ c.if-not-known_code.true) (omega arith))
+    sym (fits_unknown a.s.now a.at _ b.byte_at-c.ensures (sym c.known_code.ensures ∙ c.if-not-known_code.true) (omega arith))
 
 pub returns-then-left-head_size : goal.returns-then-left-head_size
 returns-then-left-head_size c =

@@ -22,4 +22,4 @@ returns-in-10-to-27 c = let k = c.args.c in rw (lt-leb k 5 (omega arith), le-leb
 
 pub returns-in_default : goal.returns-in_default
 unfolding known_code
-returns-in_default c = let k = c.args.c in rw (lt-leb k 5 (omega arith), le-leb 10 k (omega arith), lt-leb k 27 (omega arith), ne_eqb k 30 c.in_default-1.rest.1) refl
+returns-in_default c = let k = c.args.c in rw (lt-leb k 5 (omega arith), le-leb 10 k (omega arith), lt-leb k 27 (omega arith), ne_eqb k 30 c.in_default.in_default-own.rest.1) refl

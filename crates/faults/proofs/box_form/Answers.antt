@@ -1,5 +1,4 @@
 use mathlib.Core.Path.{◌∙◌}
-use borrow.Author.Tests.{not-true, not-false}
 use native.Mathlib.Omega.{arith}
 use Rattle.faults.proofs.Laws.{box_short, box_length, box_ports_lem, box_kinds}
 use Rattle.faults.proofs.box_form.Goals as goal
@@ -16,10 +15,10 @@ pub returns-then-not-ports_declared : goal.returns-then-not-ports_declared
 returns-then-not-ports_declared c =
     let d = c in
     let v = d in
-    box_ports_lem _ _ _ _ (v.wide-vars.ensures.0 ∙ v.byte_at.ensures) v.variable_start.ensures.0 (omega arith) d.if-b-variable_start.false _ d.ports_of.ensures.0 _ d.ports_declared.ensures (not-true _ c.if-not-ports_declared.true)
+    box_ports_lem _ _ _ _ (v.wide-vars.ensures.0 ∙ v.byte_at.ensures) v.variable_start.ensures.0 (omega arith) d.if-b-variable_start.false _ d.ports_of.ensures.0 _ d.ports_declared.ensures c.if-not-ports_declared.true
 
 pub returns : goal.returns
 returns c =
     let d = c in
     let v = d in
-    box_kinds _ _ _ _ (v.wide-vars.ensures.0 ∙ v.byte_at.ensures) v.variable_start.ensures.0 (omega arith) d.if-b-variable_start.false _ d.ports_of.ensures.0 _ d.ports_declared.ensures _ (not-false _ c.if-not-ports_declared.false) c.kinds_known.ensures
+    box_kinds _ _ _ _ (v.wide-vars.ensures.0 ∙ v.byte_at.ensures) v.variable_start.ensures.0 (omega arith) d.if-b-variable_start.false _ d.ports_of.ensures.0 _ d.ports_declared.ensures _ c.if-not-ports_declared.false c.kinds_known.ensures

@@ -2,7 +2,6 @@ use Rattle.faults.proofs.Laws.{AtEach, every_end, each_no, each_more, each_at}
 use Rattle.model.specs.Values.{in_precision}
 use Rattle.model.specs.Expressions.{type_at}
 use Rattle.faults.specs.Variables.{fits_at}
-use borrow.Author.Tests.{not-true, not-false}
 use Rattle.model.specs.NetworkFile.{every}
 use mathlib.Core.Bool.{true}
 use mathlib.Core.Path.{refl, sym, ◌∙◌}
@@ -23,14 +22,14 @@ pub returns-then-not-variable_fits : goal.returns-then-not-variable_fits
 returns-then-not-variable_fits c =
     let a = c.args in
     let v = c.variable_start-at in
-    each_no a.b.now (fits_at a.b.now) a.n c.loop-j.j v.result v.ensures.0 (omega arith) (sym c.variable_fits.ensures ∙ not-true _ c.if-not-variable_fits.true)
+    each_no a.b.now (fits_at a.b.now) a.n c.loop-j.j v.result v.ensures.0 (omega arith) (sym c.variable_fits.ensures ∙ c.if-not-variable_fits.true)
 
 pub loop-j-preserved : goal.loop-j-preserved
 loop-j-preserved c =
     let a = c.args in
     let l = c.loop-j in
     let v = c.variable_start-at in
-    (omega arith, each_more a.b.now (fits_at a.b.now) l.j v.result v.ensures.0 l.invariant.1 (sym c.variable_fits.ensures ∙ not-false _ c.if-not-variable_fits.false))
+    (omega arith, each_more a.b.now (fits_at a.b.now) l.j v.result v.ensures.0 l.invariant.1 (sym c.variable_fits.ensures ∙ c.if-not-variable_fits.false))
 
 pub returns : goal.returns
 returns c = let a = c.args in let l = c.loop-j in every_end a.n l.j (AtEach a.b.now (fits_at a.b.now)) l.invariant.0 (omega arith) l.invariant.1

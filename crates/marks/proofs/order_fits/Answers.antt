@@ -2,7 +2,6 @@ use mathlib.Core.Path.{◌≡◌, refl, sym, ◌∙◌}
 use Prim.Native.Nat.{◌-◌, ◌^◌}
 use native.Mathlib.Omega.{arith}
 use lib.ListN.{get_or}
-use borrow.Author.Tests.{not-true, not-false}
 use Rattle.marks.proofs.Laws.{turn_no, turn_yes, turn_high, turn_end}
 use Rattle.marks.proofs.order_fits.Goals as goal
 
@@ -25,12 +24,12 @@ pub returns-then-not-is_marked : goal.returns-then-not-is_marked
 returns-then-not-is_marked c =
     let l = c.loop-i in
     let order = c.args.order.now in
-    let no = sym c.is_marked.ensures ∙ not-true c.is_marked.result c.if-not-is_marked.true in
+    let no = sym c.is_marked.ensures ∙ c.if-not-is_marked.true in
     sym (l.invariant.2 ∙ turn_no l.left order l.i (omega arith) no)
 
 pub without_mark-left-requires : goal.without_mark-left-requires
 without_mark-left-requires c =
-    (omega arith, sym c.is_marked.ensures ∙ not-false c.is_marked.result c.if-not-is_marked.false)
+    (omega arith, sym c.is_marked.ensures ∙ c.if-not-is_marked.false)
 
 pub overflow_add-i : goal.overflow_add-i
 overflow_add-i c = omega arith
@@ -43,7 +42,7 @@ loop-i-preserved c =
     let l = c.loop-i in
     let order = c.args.order.now in
     let k = get_or order l.i 0 in
-    let is = sym c.is_marked.ensures ∙ not-false c.is_marked.result c.if-not-is_marked.false in
+    let is = sym c.is_marked.ensures ∙ c.if-not-is_marked.false in
     let less : c.without_mark-left.result ≡ l.left - 2 ^ k = c.without_mark-left.ensures in
     rw less (omega arith, omega arith, l.invariant.2 ∙ turn_yes l.left order l.i (omega arith) is)
 

@@ -18,7 +18,7 @@ returns-then-c c =
     let v = c.value_at in
     let m = c in
     ready_constant m.byte_at-c.ensures _ _ _ m.if-c-eq0.false m.pattern_tag.ensures c.if-pattern_tag-tag.false c.if-c.true
-    (eqb_bits v.result s.args.value (sfits_of v.type-inv) s.ranges.value ∙ ap (λ (z : ℤ). eq_z z s.args.value) v.ensures.0)
+    (eqb_bits v.result s.args.value (sfits_of v.type_inv) s.ranges.value ∙ ap (λ (z : ℤ). eq_z z s.args.value) v.ensures.0)
 
 pub returns : goal.returns
 returns c =

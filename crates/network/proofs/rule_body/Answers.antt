@@ -8,10 +8,10 @@ pub returns-in_default : goal.returns-in_default
 returns-in_default c =
     let k = c in
     let a = k.args in
-    lies a.net c.part.result a.b.0 a.r.0 _ _ (bad-network a.net.now k.checked.new.tab k.checked.result a.b.0 a.r.0 _ _ c.in_default.is k.checked.ensures.0) c.part.ensures
+    lies a.net c.part.result a.b.0 a.r.0 _ _ (bad-network a.net.now k.checked.new.tab k.checked.result a.b.0 a.r.0 _ _ c.in_default.is k.checked.ensures.result_after) c.part.ensures
 
 pub body_in-requires : goal.body_in-requires
 body_in-requires c =
     let k = c in
     let long : 656 ≤ length k.checked.new.tab = search rules in
-    tabled k.args.net.now k.checked.new.tab k.checked.result _ long c.in-Good.is k.checked.ensures.0 k.checked.ensures.1
+    tabled k.args.net.now k.checked.new.tab k.checked.result _ long c.in-Good.is k.checked.ensures.result_after k.checked.ensures.fit

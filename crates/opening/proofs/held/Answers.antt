@@ -1,4 +1,3 @@
-use borrow.Author.Tests.{not-true, not-false}
 use native.Mathlib.Omega.{arith}
 use Rattle.opening.specs.Opening.{Held}
 use Rattle.opening.proofs.Laws.{too_short, not_a_state, a_state}
@@ -23,7 +22,7 @@ returns-then-not-state_fits c =
     let e = c in
     let start = e in
     let a = start.args in
-    not_a_state a.net.now a.table.now a.starts.now a.tokens.now a.state.now a.c a.size a.counted start.requires.fact _ (omega (arith, e.if-state-size.false)) c.state_fits.ensures (not-true _ c.if-not-state_fits.true)
+    not_a_state a.net.now a.table.now a.starts.now a.tokens.now a.state.now a.c a.size a.counted start.requires.fact _ (omega (arith, e.if-state-size.false)) c.state_fits.ensures c.if-not-state_fits.true
 
 pub returns : goal.returns
 unfolding Held
@@ -31,4 +30,4 @@ returns c =
     let e = c in
     let start = e in
     let a = start.args in
-    a_state a.net.now a.table.now a.starts.now a.tokens.now a.state.now a.c a.size a.counted start.requires.fact _ (omega (arith, e.if-state-size.false)) c.state_fits.ensures (not-false _ c.if-not-state_fits.false)
+    a_state a.net.now a.table.now a.starts.now a.tokens.now a.state.now a.c a.size a.counted start.requires.fact _ (omega (arith, e.if-state-size.false)) c.state_fits.ensures c.if-not-state_fits.false

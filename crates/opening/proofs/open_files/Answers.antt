@@ -18,18 +18,18 @@ pub returns-in-Bad : goal.returns-in-Bad
 unfolding FilesOpened
 returns-in-Bad c =
     let f = c in
-    let r = f.r-1 in
+    let r = f.in-Good in
     let k = f in
     let a = k.args in
-    let h = net_open a.net.now k.open_network-r.new.table k.open_network-r.new.starts k.open_network-r.result _ _ r.given.1 k.open_network-r.ensures in
+    let h = net_open a.net.now k.open_network-r.new.table k.open_network-r.new.starts k.open_network-r.result _ _ r.is k.open_network-r.ensures in
     tokens_refused a.net.now a.tokens.now k.open_network-r.new.table k.open_network-r.new.starts f.token_file.new.fields _ _ h f.token_file.result f.token_file.ensures _ c.in-Bad.is
 
 pub returns-in-Good-token_file : goal.returns-in-Good-token_file
 unfolding FilesOpened
 returns-in-Good-token_file c =
     let f = c in
-    let r = f.r-1 in
+    let r = f.in-Good in
     let k = f in
     let a = k.args in
-    let h = net_open a.net.now k.open_network-r.new.table k.open_network-r.new.starts k.open_network-r.result _ _ r.given.1 k.open_network-r.ensures in
+    let h = net_open a.net.now k.open_network-r.new.table k.open_network-r.new.starts k.open_network-r.result _ _ r.is k.open_network-r.ensures in
     both_open a.net.now a.tokens.now k.open_network-r.new.table k.open_network-r.new.starts f.token_file.new.fields _ _ h f.token_file.result f.token_file.ensures c.in-Good-token_file.is

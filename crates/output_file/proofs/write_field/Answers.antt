@@ -18,8 +18,7 @@ pub field_out-requires : goal.field_out-requires
 unfolding bare_net
 field_out-requires c =
     let start = c in
-    let r = c.own_span-span in
-    part_needs start.args.net.now start.args.table.now start.args.starts.now start.args.state.now start.args.c start.requires.saved (λ i. (c.shared_slice_known-4-1.given i).fits) start.args.k.0 start.requires.output _ start.args.out.now (part_at start.args.net.now start.args.table.now start.args.starts.now start.args.state.now start.args.c start.requires.saved (λ i. (c.shared_slice_known-4-1.given i).fits) start.args.k.0 start.requires.output r.result.start r.result.end r.ensures.start r.ensures.end) start.requires.k_in_bounds
+    let r = c.own_span-span in let need = part_needs start.args.net.now start.args.table.now start.args.starts.now start.args.state.now start.args.c start.requires.saved (λ i. (c.shared_slice_known-4-1.given i).fits) start.args.k.0 start.requires.output _ start.args.out.now (part_at start.args.net.now start.args.table.now start.args.starts.now start.args.state.now start.args.c start.requires.saved (λ i. (c.shared_slice_known-4-1.given i).fits) start.args.k.0 start.requires.output r.result.start r.result.end r.ensures.start r.ensures.end) start.requires.k_in_bounds in record { part_bound = need.0; part_in_bounds = need.1.0; part_in_bounds_2 = need.1.1 }
 
 pub returns : goal.returns
 unfolding bare_net

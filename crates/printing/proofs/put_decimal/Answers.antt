@@ -15,7 +15,7 @@ loop-first-init c = (omega arith, refl, unfold decimal in refl)
 pub loop-first-preserved : goal.loop-first-preserved
 loop-first-preserved c =
     let l = c.loop-first in
-    let more = leb-true 10 l.n c.if-n-ge10.true in
+    let more = leb-true 10 l.n c.if-n-ge10.true-raw in
     (omega arith, length-set l.digits l.first _ ∙ l.invariant.1, digits_turn l.digits l.first l.n _ (omega (arith, l.invariant.0, l.invariant.1)) c.loop-first-test.true more refl ∙ l.invariant.2)
 
 pub slice_bounds-put_text-end : goal.slice_bounds-put_text-end

@@ -1,7 +1,6 @@
 use mathlib.Core.Path.{refl, sym, ap, ◌∙◌}
 use Prim.Native.Nat.{ℕ, ◌+◌}
 use native.Mathlib.Omega.{arith}
-use borrow.Author.Tests.{not-true, not-false}
 use lib.ListN.{get_or}
 use Rattle.expressions.specs.declared.Form.TheVariants.{Bytes}
 use Rattle.rules.specs.Bodies.{pattern_codes}
@@ -14,15 +13,15 @@ returns-then-b-at c = let a = c.args in pattern_none (pattern_codes a.var) a.b.n
 pub returns-then-not-pattern_known : goal.returns-then-not-pattern_known
 returns-then-not-pattern_known c =
     let a = c.args in
-    pattern_unknown (pattern_codes a.var) a.b.now a.at (get_or a.b.now a.at 0) refl (omega arith) (sym c.pattern_known.ensures ∙ not-true _ c.if-not-pattern_known.true)
+    pattern_unknown (pattern_codes a.var) a.b.now a.at (get_or a.b.now a.at 0) refl (omega arith) (sym c.pattern_known.ensures ∙ c.if-not-pattern_known.true)
 
 pub returns-then-b-at-2 : goal.returns-then-b-at-2
 returns-then-b-at-2 c =
     let a = c.args in
-    pattern_cut (pattern_codes a.var) a.b.now a.at (get_or a.b.now a.at 0) refl (omega arith) (sym c.pattern_known.ensures ∙ not-false _ c.if-not-pattern_known.false) (omega arith)
+    pattern_cut (pattern_codes a.var) a.b.now a.at (get_or a.b.now a.at 0) refl (omega arith) (sym c.pattern_known.ensures ∙ c.if-not-pattern_known.false) (omega arith)
 
 pub returns : goal.returns
 returns c =
     let a = c.args in
     ap (λ (n : ℕ). Bytes (a.at + n)) c.pattern_size-n.ensures
-    ∙ pattern_whole (pattern_codes a.var) a.b.now a.at (get_or a.b.now a.at 0) refl (omega arith) (sym c.pattern_known.ensures ∙ not-false _ c.if-not-pattern_known.false) (omega arith)
+    ∙ pattern_whole (pattern_codes a.var) a.b.now a.at (get_or a.b.now a.at 0) refl (omega arith) (sym c.pattern_known.ensures ∙ c.if-not-pattern_known.false) (omega arith)

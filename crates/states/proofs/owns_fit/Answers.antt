@@ -1,7 +1,6 @@
 use mathlib.Core.Path.{refl, sym, ◌∙◌}
 use mathlib.Core.Bool.{true, false}
 use native.Mathlib.Omega.{arith}
-use borrow.Author.Tests.{not-true, not-false}
 use Rattle.places.specs.Standing.{net_in}
 use Rattle.states.proofs.Fits.{owns_turn, owns_done, procs_n}
 use Rattle.states.proofs.owns_fit.Goals as goal
@@ -33,7 +32,7 @@ returns-then-not-own_fits c =
     let l = c.loop-k in
     let less = c.loop-k-test.true in
     let long = procs_n start.args.net.now start.args.table.now start.args.c start.requires.tabled start.args.tokens.now in
-    let e = owns_turn (net_in start.args.net.now start.args.table.now start.args.c start.args.tokens.now) start.args.state.now start.args.counted l.k _ false (omega (arith, less, long)) c.own_fits.ensures (not-true _ c.if-not-own_fits.true) in
+    let e = owns_turn (net_in start.args.net.now start.args.table.now start.args.c start.args.tokens.now) start.args.state.now start.args.counted l.k _ false (omega (arith, less, long)) c.own_fits.ensures c.if-not-own_fits.true in
     sym e ∙ l.invariant.1
 
 pub overflow_add-k : goal.overflow_add-k
@@ -50,7 +49,7 @@ loop-k-preserved c =
     let l = c.loop-k in
     let less = c.loop-k-test.true in
     let long = procs_n start.args.net.now start.args.table.now start.args.c start.requires.tabled start.args.tokens.now in
-    let e = owns_turn (net_in start.args.net.now start.args.table.now start.args.c start.args.tokens.now) start.args.state.now start.args.counted l.k _ true (omega (arith, less, long)) c.own_fits.ensures (not-false _ c.if-not-own_fits.false) in
+    let e = owns_turn (net_in start.args.net.now start.args.table.now start.args.c start.args.tokens.now) start.args.state.now start.args.counted l.k _ true (omega (arith, less, long)) c.own_fits.ensures c.if-not-own_fits.false in
     (omega (arith, less), sym e ∙ l.invariant.1)
 
 pub returns : goal.returns

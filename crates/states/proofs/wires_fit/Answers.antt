@@ -1,7 +1,6 @@
 use mathlib.Core.Path.{refl, sym, ◌∙◌}
 use mathlib.Core.Bool.{true, false}
 use native.Mathlib.Omega.{arith}
-use borrow.Author.Tests.{not-true, not-false}
 use Rattle.places.specs.Standing.{bare_net}
 use Rattle.states.proofs.Fits.{wires_turn, wires_done, wires_n}
 use Rattle.states.proofs.wires_fit.Goals as goal
@@ -25,7 +24,7 @@ returns-then-not-wire_fits c =
     let l = c.loop-w in
     let less = c.loop-w-test.true in
     let long = wires_n start.args.net.now start.args.table.now start.args.c start.requires.tabled in
-    let e = wires_turn (bare_net start.args.net.now start.args.table.now start.args.c) start.args.state.now l.w _ false (unfold bare_net in omega (arith, less, long)) c.wire_fits.ensures (not-true _ c.if-not-wire_fits.true) in
+    let e = wires_turn (bare_net start.args.net.now start.args.table.now start.args.c) start.args.state.now l.w _ false (unfold bare_net in omega (arith, less, long)) c.wire_fits.ensures c.if-not-wire_fits.true in
     sym e ∙ l.invariant.1
 
 pub overflow_add-w : goal.overflow_add-w
@@ -42,7 +41,7 @@ loop-w-preserved c =
     let l = c.loop-w in
     let less = c.loop-w-test.true in
     let long = wires_n start.args.net.now start.args.table.now start.args.c start.requires.tabled in
-    let e = wires_turn (bare_net start.args.net.now start.args.table.now start.args.c) start.args.state.now l.w _ true (unfold bare_net in omega (arith, less, long)) c.wire_fits.ensures (not-false _ c.if-not-wire_fits.false) in
+    let e = wires_turn (bare_net start.args.net.now start.args.table.now start.args.c) start.args.state.now l.w _ true (unfold bare_net in omega (arith, less, long)) c.wire_fits.ensures c.if-not-wire_fits.false in
     (omega (arith, less), sym e ∙ l.invariant.1)
 
 pub returns : goal.returns

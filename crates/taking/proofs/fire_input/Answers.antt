@@ -11,8 +11,7 @@ input_token-t-requires c =
     let start = found in
     let h = start.requires.standing in
     let o = input_at_lem _ _ _ _ _ _ h _ _ _ start.requires.input_ready.least start.requires.input_ready.known found.input_wire-w.ensures found.wide.ensures.0 in
-    let d = taken_here _ _ _ _ _ _ h _ _ _ start.requires.input_ready o _ _ two.own_part-part.ensures two.two_at-taken.ensures.0 in
-    token_asked _ _ _ _ _ _ h _ _ _ start.requires.input_ready o _ start.requires.fields _ d
+    let d = taken_here _ _ _ _ _ _ h _ _ _ start.requires.input_ready o _ _ two.own_part-part.ensures two.two_at-taken.ensures.0 in let need = token_asked _ _ _ _ _ _ h _ _ _ start.requires.input_ready o _ start.requires.fields _ d in record { in_file = need.0; k_in_bounds = need.1 }
 
 pub put-requires : goal.put-requires
 put-requires c =

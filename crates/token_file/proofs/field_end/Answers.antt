@@ -1,5 +1,4 @@
 use mathlib.Core.Path.{sym, ap, ◌∙◌}
-use borrow.Author.Tests.{not-true, not-false}
 use Rattle.model.specs.States.{token_field}
 use Rattle.tokens.proofs.Groups.{field_inside}
 use Rattle.token_file.proofs.Laws.{end_cut, end_bad, end_good}
@@ -19,7 +18,7 @@ pub returns-then-not-token_field : goal.returns-then-not-token_field
 returns-then-not-token_field c =
     let a = c.args in
     end_bad a.tokens.now a.t a.at _ _ _ (sym c.field_at.ensures ∙ c.in-At.is)
-    (ap (token_field a.t _) (sym c.part-body.ensures.bytes) ∙ sym c.token_field.ensures ∙ not-true _ c.if-not-token_field.true)
+    (ap (token_field a.t _) (sym c.part-body.ensures.bytes) ∙ sym c.token_field.ensures ∙ c.if-not-token_field.true)
 
 pub overflow_add-result : goal.overflow_add-result
 overflow_add-result c =
@@ -32,4 +31,4 @@ pub returns : goal.returns
 returns c =
     let a = c.args in
     end_good a.tokens.now a.t a.at _ _ _ (sym c.field_at.ensures ∙ c.in-At.is)
-    (ap (token_field a.t _) (sym c.part-body.ensures.bytes) ∙ sym c.token_field.ensures ∙ not-false _ c.if-not-token_field.false)
+    (ap (token_field a.t _) (sym c.part-body.ensures.bytes) ∙ sym c.token_field.ensures ∙ c.if-not-token_field.false)

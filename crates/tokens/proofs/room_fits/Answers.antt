@@ -1,6 +1,5 @@
 use mathlib.Core.Path.{sym, ◌∙◌}
 use native.Mathlib.Omega.{arith}
-use borrow.Author.Tests.{not-true, not-false}
 use Rattle.tokens.proofs.Laws.{room-full, room-wrong, room-right}
 use Rattle.tokens.proofs.room_fits.Goals as goal
 
@@ -8,7 +7,7 @@ pub returns-then-room-k : goal.returns-then-room-k
 returns-then-room-k c = sym (room-full _ _ _ _ c.if-room-k.true)
 
 pub returns-then-not-tokens_fit : goal.returns-then-not-tokens_fit
-returns-then-not-tokens_fit c = sym (room-wrong _ _ _ _ (omega arith) (sym c.tokens_fit.ensures ∙ not-true _ c.if-not-tokens_fit.true))
+returns-then-not-tokens_fit c = sym (room-wrong _ _ _ _ (omega arith) (sym c.tokens_fit.ensures ∙ c.if-not-tokens_fit.true))
 
 pub returns : goal.returns
-returns c = c.all_zero.ensures ∙ sym (room-right _ _ _ _ (omega arith) (sym c.tokens_fit.ensures ∙ not-false _ c.if-not-tokens_fit.false))
+returns c = c.all_zero.ensures ∙ sym (room-right _ _ _ _ (omega arith) (sym c.tokens_fit.ensures ∙ c.if-not-tokens_fit.false))

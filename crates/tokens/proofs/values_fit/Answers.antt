@@ -2,7 +2,6 @@ use mathlib.Core.Path.{◌≡◌, sym, ◌∙◌}
 use mathlib.Core.Bool.{Bool, true, false, ◌&&◌}
 use Prim.Native.Nat.{◌+◌}
 use native.Mathlib.Omega.{arith}
-use borrow.Author.Tests.{not-true, not-false}
 use Rattle.octets.proofs.Laws.{back}
 use Rattle.tokens.proofs.Laws.{from_variable, values_all, value_turn, values_done, precise_at}
 use Rattle.tokens.proofs.values_fit.Goals as goal
@@ -16,8 +15,7 @@ loop-j-init c =
 pub within-requires : goal.within-requires
 within-requires c =
     let l = c.loop-j in
-    let s = c in
-    precise_at s.args.body.now l.j _ _ s.requires (omega arith) c.variable_start.ensures.0 c.type_at-t.ensures
+    let s = c in let need = precise_at s.args.body.now l.j _ _ s.requires (omega arith) c.variable_start.ensures.0 c.type_at-t.ensures in record { le_p = need.0; p_bound = need.1 }
 
 -- one variable
 turn_at : (c : goal.After-within) (x : Bool) → c.within.result ≡ x →
@@ -29,12 +27,12 @@ turn_at c x e =
     value_turn _ _ _ _ _ _ _ _ x (omega arith) c.variable_start.ensures.0 c.type_at-t.ensures (back (omega arith) ∙ c.var_at.ensures.0) c.within.ensures e
 
 pub returns-then-not-within : goal.returns-then-not-within
-returns-then-not-within c = sym (turn_at c.before false (not-true _ c.if-not-within.true)) ∙ c.loop-j.invariant.2
+returns-then-not-within c = sym (turn_at c.before false c.if-not-within.true) ∙ c.loop-j.invariant.2
 
 pub loop-j-preserved : goal.loop-j-preserved
 loop-j-preserved c =
     let l = c.loop-j in
-    (omega arith, l.invariant.1, sym (turn_at c.before true (not-false _ c.if-not-within.false)) ∙ l.invariant.2)
+    (omega arith, l.invariant.1, sym (turn_at c.before true c.if-not-within.false) ∙ l.invariant.2)
 
 pub returns : goal.returns
 returns c =

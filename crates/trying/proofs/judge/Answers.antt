@@ -1,6 +1,5 @@
 use mathlib.Core.Path.{◌≡◌, sym, ap, ◌∙◌}
 use native.Mathlib.Omega.{arith}
-use borrow.Author.Tests.{not-true, not-false}
 use Rattle.values.proofs.Machine.{back}
 use Rattle.model.specs.Values.{is_true}
 use Rattle.model.specs.Rules.{rule_read, read_rule}
@@ -46,7 +45,7 @@ returns-then-not-is_true c =
     let d = c in
     let o = d.before in
     let h = o.requires in
-    judge_false _ _ _ _ h.work _ _ _ h.guard _ (open_at o) _ _ (sym c.in-Value.is ∙ d.value.ensures) (ap is_true (sym (back {z = c.in-Value.value} (omega arith))) ∙ sym c.is_true.ensures ∙ not-true _ c.if-not-is_true.true)
+    judge_false _ _ _ _ h.work _ _ _ h.guard _ (open_at o) _ _ (sym c.in-Value.is ∙ d.value.ensures) (ap is_true (sym (back {z = c.in-Value.value} (omega arith))) ∙ sym c.is_true.ensures ∙ c.if-not-is_true.true)
 
 pub chosen-requires : goal.chosen-requires
 chosen-requires c =
@@ -66,4 +65,4 @@ returns-else-not-is_true c =
     let d = c in
     let o = d.before in
     let h = o.requires in
-    judge_true _ _ _ _ h.work _ _ _ h.guard _ (open_at o) _ _ (sym c.in-Value.is ∙ d.value.ensures) (ap is_true (sym (back {z = c.in-Value.value} (omega (arith, c.in-Value.known_told-in-Value-1-own)))) ∙ sym c.is_true.ensures ∙ not-false _ c.if-not-is_true.false) c.chosen.ensures
+    judge_true _ _ _ _ h.work _ _ _ h.guard _ (open_at o) _ _ (sym c.in-Value.is ∙ d.value.ensures) (ap is_true (sym (back {z = c.in-Value.value} (omega (arith, c.in-Value)))) ∙ sym c.is_true.ensures ∙ c.if-not-is_true.false) c.chosen.ensures

@@ -3,7 +3,6 @@ use mathlib.Core.List.{List}
 use Prim.Native.Nat.{ℕ, ◌<◌}
 use native.Mathlib.Omega.{arith}
 use borrow.Author.Rules.{rules}
-use borrow.Author.Tests.{not-true, not-false}
 use Rattle.model.specs.Rules.{rule_read, read_rule}
 use Rattle.model.specs.NetworkFile.{body_at, rule_at}
 use Rattle.model.specs.Cycles.{quiet, fires, faulty}
@@ -78,7 +77,7 @@ pub rules-preserved-then-not-port_ready : goal.rules-preserved-then-not-port_rea
 rules-preserved-then-not-port_ready c =
     let l = c.before.before.before in
     let o = outer l in
-    let q = not_ready _ _ _ _ (ruled-here l.before) _ _ _ _ l.loop-j.invariant.2 c.loop-j-test.true _ l.loop-j.r c.port_ready.ensures (not-true _ c.if-not-port_ready.true) in
+    let q = not_ready _ _ _ _ (ruled-here l.before) _ _ _ _ l.loop-j.invariant.2 c.loop-j-test.true _ l.loop-j.r c.port_ready.ensures c.if-not-port_ready.true in
     (omega (arith, o.0), sym (first_quiet _ _ l.loop-j.r o.0 (o.2 ∙ q)) ∙ o.1)
 
 pub overflow_add-at : goal.overflow_add-at
@@ -95,7 +94,7 @@ loop-j-preserved c =
     let i = l.loop-j.invariant in (
       i.0,
       omega (arith, e.loop-j-test.true),
-      one_ready _ _ _ _ (ruled-here l.before) _ _ _ _ i.2 e.loop-j-test.true _ _ e.port_ready.ensures (not-false _ e.if-not-port_ready.false) c.byte_at.ensures c.pattern_size-size.ensures,
+      one_ready _ _ _ _ (ruled-here l.before) _ _ _ _ i.2 e.loop-j-test.true _ _ e.port_ready.ensures e.if-not-port_ready.false c.byte_at.ensures c.pattern_size-size.ensures,
     )
 
 pub settle-requires : goal.settle-requires

@@ -25,7 +25,7 @@ pub type_at-t-requires : goal.type_at-t-requires
 type_at-t-requires c = omega (arith, leaf_inside (leaf c.before), (start c.before).well-formed.0.0)
 
 pub within-fits-requires : goal.within-fits-requires
-within-fits-requires c = let o = c in leaf_precise (leaf o.before.before) o.if-c-eq0.true (start o.before.before).requires.1.1.0 o.type_at-t.ensures
+within-fits-requires c = let o = c in let need = leaf_precise (leaf o.before.before) o.if-c-eq0.true (start o.before.before).requires.1.1.0 o.type_at-t.ensures in record { le_p = need.0; p_bound = need.1 }
 
 pub returns-then-c-eq0 : goal.returns-then-c-eq0
 returns-then-c-eq0 c =

@@ -1,7 +1,6 @@
 use mathlib.Core.Path.{refl, sym, ap, ◌∙◌}
 use mathlib.Core.Bool.{true}
 use native.Mathlib.Omega.{arith}
-use borrow.Author.Tests.{not-true, not-false}
 use Rattle.model.specs.Rules.{read_action}
 use Rattle.rules.specs.Bodies.{action_codes, actions_from}
 use Rattle.typing.specs.Fits.{fitting_of}
@@ -31,7 +30,7 @@ returns-then-not-action_limits c =
     let a = c.args in
     let i = c.loop-left in
     let e = sym c.action_end.ensures ∙ c.in-Bytes.is in
-    keep_fail a.var a.b.now i.left i.at _ (omega arith) i.invariant.0 e (sym c.action_limits.ensures ∙ not-true _ c.if-not-action_limits.true) i.invariant.1
+    keep_fail a.var a.b.now i.left i.at _ (omega arith) i.invariant.0 e (sym c.action_limits.ensures ∙ c.if-not-action_limits.true) i.invariant.1
 
 pub loop-left-preserved : goal.loop-left-preserved
 loop-left-preserved c =
@@ -39,7 +38,7 @@ loop-left-preserved c =
     let i = c.loop-left in
     let e = sym c.action_end.ensures ∙ c.in-Bytes.is in (
       keep_read a.var a.b.now i.left i.at _ (omega arith) i.invariant.0 e,
-      keep_more a.var a.b.now i.left i.at _ (omega arith) i.invariant.0 e (sym c.action_limits.ensures ∙ not-false _ c.if-not-action_limits.false) i.invariant.1,
+      keep_more a.var a.b.now i.left i.at _ (omega arith) i.invariant.0 e (sym c.action_limits.ensures ∙ c.if-not-action_limits.false) i.invariant.1,
     )
 
 pub returns : goal.returns

@@ -1,7 +1,6 @@
 use mathlib.Core.Path.{◌≡◌, sym, ap, ◌∙◌}
 use Prim.Native.Nat.{ℕ, ◌+◌}
 use native.Mathlib.Omega.{arith}
-use borrow.Author.Tests.{not-true, not-false}
 use Rattle.model.specs.declared.Ty.{Ty}
 use Rattle.model.specs.Bytes.{value_at}
 use Rattle.model.specs.Rules.{pattern_of, pattern_fits, tag_fits}
@@ -18,7 +17,7 @@ pub returns-then-not-tag_fits : goal.returns-then-not-tag_fits
 returns-then-not-tag_fits c =
     let a = c.args in
     let k = c.byte_at-c in
-    fits_tag a.t k.result (value_at a.b.now (a.at + 1)) (λ e. c.if-c-eq0.false e) (ap (tag_fits a.t) (sym c.pattern_tag.ensures) ∙ sym c.tag_fits.ensures ∙ not-true _ c.if-not-tag_fits.true)
+    fits_tag a.t k.result (value_at a.b.now (a.at + 1)) (λ e. c.if-c-eq0.false e) (ap (tag_fits a.t) (sym c.pattern_tag.ensures) ∙ sym c.tag_fits.ensures ∙ c.if-not-tag_fits.true)
     ∙ ap (λ (j : ℕ). pattern_fits a.t (pattern_of j (value_at a.b.now (a.at + 1)))) k.ensures
 
 pub within-requires : goal.within-requires
@@ -33,12 +32,12 @@ returns-then-c c =
     let a = c.args in
     let k = c.byte_at-c in
     let v = c.value_at in
-    fits_constant a.t k.result (value_at a.b.now (a.at + 1)) (λ e. c.if-c-eq0.false e) (ap (tag_fits a.t) (sym c.pattern_tag.ensures) ∙ sym c.tag_fits.ensures ∙ not-false _ c.if-not-tag_fits.false) c.if-c.true (c.within.ensures ∙ rw (back {z = v.result} (omega (arith, v.ensures.1)), v.ensures.0, c.carried-u.ensures))
+    fits_constant a.t k.result (value_at a.b.now (a.at + 1)) (λ e. c.if-c-eq0.false e) (ap (tag_fits a.t) (sym c.pattern_tag.ensures) ∙ sym c.tag_fits.ensures ∙ c.if-not-tag_fits.false) c.if-c.true (c.within.ensures ∙ rw (back {z = v.result} (omega (arith, v.ensures.1)), v.ensures.0, c.carried-u.ensures))
     ∙ ap (λ (j : ℕ). pattern_fits a.t (pattern_of j (value_at a.b.now (a.at + 1)))) k.ensures
 
 pub returns : goal.returns
 returns c =
     let a = c.args in
     let k = c.byte_at-c in
-    fits_any a.t k.result (value_at a.b.now (a.at + 1)) (λ e. c.if-c-eq0.false e) (ap (tag_fits a.t) (sym c.pattern_tag.ensures) ∙ sym c.tag_fits.ensures ∙ not-false _ c.if-not-tag_fits.false) c.if-c.false
+    fits_any a.t k.result (value_at a.b.now (a.at + 1)) (λ e. c.if-c-eq0.false e) (ap (tag_fits a.t) (sym c.pattern_tag.ensures) ∙ sym c.tag_fits.ensures ∙ c.if-not-tag_fits.false) c.if-c.false
     ∙ ap (λ (j : ℕ). pattern_fits a.t (pattern_of j (value_at a.b.now (a.at + 1)))) k.ensures

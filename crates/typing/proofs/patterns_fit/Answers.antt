@@ -2,7 +2,6 @@ use mathlib.Core.Path.{sym, ap, ◌∙◌}
 use mathlib.Core.Bool.{true}
 use Prim.Native.Nat.{◌-◌}
 use native.Mathlib.Omega.{arith}
-use borrow.Author.Tests.{not-true, not-false}
 use Rattle.model.specs.Rules.{read_pattern}
 use Rattle.expressions.specs.Reading.{is_read}
 use Rattle.rules.specs.Bodies.{pattern_codes, patterns_from}
@@ -35,14 +34,14 @@ pub returns-then-not-pattern_fits : goal.returns-then-not-pattern_fits
 returns-then-not-pattern_fits c =
     let a = c.args in
     let i = c.loop-k in
-    fit_fail a.var a.b.now a.types.now a.n i.k i.at _ _ _ (omega arith) i.invariant.1.0 (sym c.pattern_end.ensures ∙ c.in-Bytes.is) c.entry.ensures c.pattern_fits.ensures (not-true _ c.if-not-pattern_fits.true) i.invariant.1.1
+    fit_fail a.var a.b.now a.types.now a.n i.k i.at _ _ _ (omega arith) i.invariant.1.0 (sym c.pattern_end.ensures ∙ c.in-Bytes.is) c.entry.ensures c.pattern_fits.ensures c.if-not-pattern_fits.true i.invariant.1.1
 
 pub loop-k-preserved : goal.loop-k-preserved
 loop-k-preserved c =
     let a = c.args in
     let i = c.loop-k in
     let e = sym c.pattern_end.ensures ∙ c.in-Bytes.is in
-    (omega arith, (read_step a.var a.b.now a.types.now a.n i.k i.at _ (omega arith) i.invariant.1.0 e, fit_more a.var a.b.now a.types.now a.n i.k i.at _ _ _ (omega arith) i.invariant.1.0 e c.entry.ensures c.pattern_fits.ensures (not-false _ c.if-not-pattern_fits.false) i.invariant.1.1))
+    (omega arith, (read_step a.var a.b.now a.types.now a.n i.k i.at _ (omega arith) i.invariant.1.0 e, fit_more a.var a.b.now a.types.now a.n i.k i.at _ _ _ (omega arith) i.invariant.1.0 e c.entry.ensures c.pattern_fits.ensures c.if-not-pattern_fits.false i.invariant.1.1))
 
 pub returns : goal.returns
 unfolding fitting_of

@@ -22,7 +22,7 @@ pub returns-then-o-eq4 : goal.returns-then-o-eq4
 unfolding apply_one bool is_true
 returns-then-o-eq4 c =
     let s = c in
-    rw (back c.truth.type-inv, c.truth.ensures, zero_bits s.args.a s.ranges.a, eq-eqb s.args.o 4 c.if-o-eq4.true, not-not (eq_z s.args.a (pos 0)))
+    rw (back c.truth.type_inv, c.truth.ensures, zero_bits s.args.a s.ranges.a, eq-eqb s.args.o 4 c.if-o-eq4.true, not-not (eq_z s.args.a (pos 0)))
 
 pub overflow_sub-ones : goal.overflow_sub-ones
 overflow_sub-ones c = let s = c in rw c.ones.ensures (le_ones s.args.t.p (x_lt c))
@@ -34,4 +34,4 @@ pub returns : goal.returns
 unfolding apply_one bool is_true
 returns c =
     let s = c in
-    rw (back c.read_back.type-inv, c.read_back.ensures, c.ones.ensures, c.pattern-x.ensures, to_z-of_z s.ranges.a, ne_eqb s.args.o 4 c.if-o-eq4.false)
+    rw (back c.read_back.type_inv, c.read_back.ensures, c.ones.ensures, c.pattern-x.ensures, to_z-of_z s.ranges.a, ne_eqb s.args.o 4 c.if-o-eq4.false)

@@ -1,6 +1,7 @@
 use mathlib.Core.Path.{sym, ◌∙◌}
 use native.Mathlib.Omega.{arith}
 use borrow.Author.Tests.{eq-eqb, ne_eqb}
+use lib.IntN.{◌+ℤ◌, ◌-ℤ◌, ◌*ℤ◌}
 use lib.Signed.{quot_z, rem_z}
 use mir.Syntax.{w64}
 use mir.Val.{of_z}

@@ -64,15 +64,15 @@ read_back-requires-in_default c = let d = c.before in record { le_p = omega arit
 
 pub returns-in-15 : goal.returns-in-15
 unfolding bitwise
-returns-in-15 c = let d = c.before.before in rw (c.in-15.is, back c.read_back.type-inv, c.read_back.ensures, x-is d, y-is d)
+returns-in-15 c = let d = c.before.before in rw (c.in-15.is, back c.read_back.type_inv, c.read_back.ensures, x-is d, y-is d)
 
 pub returns-in-16 : goal.returns-in-16
 unfolding bitwise
-returns-in-16 c = let d = c.before.before in rw (c.in-16.is, back c.read_back-in-16.type-inv, c.read_back-in-16.ensures, x-is d, y-is d)
+returns-in-16 c = let d = c.before.before in rw (c.in-16.is, back c.read_back-in-16.type_inv, c.read_back-in-16.ensures, x-is d, y-is d)
 
 pub returns-in-17 : goal.returns-in-17
 unfolding bitwise
-returns-in-17 c = let d = c.before.before.before in rw (c.in-17.is, back c.read_back-in-17.type-inv, c.read_back-in-17.ensures, c.ones.ensures, x-is d, y-is d)
+returns-in-17 c = let d = c.before.before.before in rw (c.in-17.is, back c.read_back-in-17.type_inv, c.read_back-in-17.ensures, c.ones.ensures, x-is d, y-is d)
 
 pub returns-in-18 : goal.returns-in-18
 unfolding bitwise
@@ -80,7 +80,7 @@ returns-in-18 c =
     let d = c.before.before in
     let a = d.args.a in
     let n = d.pattern-n.result in
-    rw (c.in-18.is, back c.wrap.type-inv, c.wrap.ensures, shift_need a n (omega arith) (n-lt d), to_z-of_z (shift_fits a n (omega arith) (n-lt d)), n-is d)
+    rw (c.in-18.is, back c.wrap.type_inv, c.wrap.ensures, shift_need a n (omega arith) (n-lt d), to_z-of_z (shift_fits a n (omega arith) (n-lt d)), n-is d)
 
 pub returns-in_default : goal.returns-in_default
 unfolding bitwise
@@ -88,4 +88,4 @@ returns-in_default c =
     let d = c.before.before in
     let o = d.args.o in
     let r = c.in_default.in_default-own.rest in
-    rw (back c.read_back-in_default.type-inv, c.read_back-in_default.ensures, ne_eqb o 18 r.1, ne_eqb o 17 r.0.1, ne_eqb o 16 r.0.0.1, ne_eqb o 15 r.0.0.0.1, x-is d, n-is d)
+    rw (back c.read_back-in_default.type_inv, c.read_back-in_default.ensures, ne_eqb o 18 r.1, ne_eqb o 17 r.0.1, ne_eqb o 16 r.0.0.1, ne_eqb o 15 r.0.0.0.1, x-is d, n-is d)

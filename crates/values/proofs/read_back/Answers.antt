@@ -18,21 +18,21 @@ below {p} {n} h = omega (arith, pow_62 h.1.0)
 less : (c : goal.After-power-2) → to_z w64 c.args.n -ℤ to_z w64 (of_z w64 c.power-2.result) ≡ pos c.args.n -ℤ pos (2 ^ c.args.t.p)
 less c =
     let s = c in
-    rw (to_z_pos w64 (below s.requires), pow_is s.args.t.p (omega arith) c.power-2.ensures)
+    rw (to_z_pos w64 (below (s.requires.le_p, (s.requires.p_bound, s.requires.n_bound))), pow_is s.args.t.p (omega arith) c.power-2.ensures)
 
 pub overflow_cast-x : goal.overflow_cast-x
-overflow_cast-x c = record { sfits = below c.requires }
+overflow_cast-x c = record { sfits = below (c.requires.le_p, (c.requires.p_bound, c.requires.n_bound)) }
 
 pub returns-then-t-ne1 : goal.returns-then-t-ne1
 unfolding read_back signed_of
-returns-then-t-ne1 c = let s = c in rw (to_z_pos w64 (below s.requires), ne_eqb s.args.t.kind 1 c.if-t-ne1.true)
+returns-then-t-ne1 c = let s = c in rw (to_z_pos w64 (below (s.requires.le_p, (s.requires.p_bound, s.requires.n_bound))), ne_eqb s.args.t.kind 1 c.if-t-ne1.true)
 
 pub returns-then-x-power : goal.returns-then-x-power
 unfolding read_back signed_of
 returns-then-x-power c =
     let s = c in
     let p = s.args.t.p in
-    rw (to_z_pos w64 (below s.requires), eq-eqb s.args.t.kind 1 c.if-t-ne1.false, rw (to_z_pos w64 (below s.requires), pow_is (p - 1) (omega arith) c.power.ensures) at c.if-x-power.true)
+    rw (to_z_pos w64 (below (s.requires.le_p, (s.requires.p_bound, s.requires.n_bound))), eq-eqb s.args.t.kind 1 c.if-t-ne1.false, rw (to_z_pos w64 (below (s.requires.le_p, (s.requires.p_bound, s.requires.n_bound))), pow_is (p - 1) (omega arith) c.power.ensures) at c.if-x-power.true)
 
 pub overflow_sub-result : goal.overflow_sub-result
 overflow_sub-result c = let s = c in rw (less c) (less_fits s.args.n (2 ^ s.args.t.p) (omega arith) (pow_62 (omega arith)))
@@ -42,4 +42,4 @@ unfolding read_back signed_of
 returns c =
     let s = c in
     let p = s.args.t.p in
-    rw (less c, to_z-of_z (less_fits s.args.n (2 ^ p) (omega arith) (pow_62 (omega arith))), eq-eqb s.args.t.kind 1 c.if-t-ne1.false, rw (to_z_pos w64 (below s.requires), pow_is (p - 1) (omega arith) c.power.ensures) at c.if-x-power.false)
+    rw (less c, to_z-of_z (less_fits s.args.n (2 ^ p) (omega arith) (pow_62 (omega arith))), eq-eqb s.args.t.kind 1 c.if-t-ne1.false, rw (to_z_pos w64 (below (s.requires.le_p, (s.requires.p_bound, s.requires.n_bound))), pow_is (p - 1) (omega arith) c.power.ensures) at c.if-x-power.false)

@@ -2,7 +2,7 @@ use mathlib.Core.Path.{◌≡◌, refl, sym, ◌∙◌}
 use mathlib.Core.Bool.{Bool, true, false, ◌||◌}
 use Prim.Native.Nat.{◌≤◌, ◌<◌}
 use native.Mathlib.Omega.{arith}
-use borrow.Author.Tests.{le-leb, lt-leb, not-true, not-false}
+use borrow.Author.Tests.{le-leb, lt-leb}
 use lib.Dec.{eqb}
 use lib.IntN.{pos}
 use mir.Facts.{to_z-of_z}
@@ -41,15 +41,15 @@ carried_p : (t : Ty) → (carried t).p ≡ t.p
 carried_p t = carried_by (is_dc t) t refl
 
 pub returns-then-not-tag_fits : goal.returns-then-not-tag_fits
-returns-then-not-tag_fits c = sym (no_tag _ _ (sym c.tag_fits.ensures ∙ not-true _ c.if-not-tag_fits.true))
+returns-then-not-tag_fits c = sym (no_tag _ _ (sym c.tag_fits.ensures ∙ c.if-not-tag_fits.true))
 
 pub returns-then-k-gt3 : goal.returns-then-k-gt3
-returns-then-k-gt3 c = sym (no_code _ _ (sym c.tag_fits.ensures ∙ not-false _ c.if-not-tag_fits.false) c.if-k-gt3.true)
+returns-then-k-gt3 c = sym (no_code _ _ (sym c.tag_fits.ensures ∙ c.if-not-tag_fits.false) c.if-k-gt3.true)
 
 pub returns-then-k : goal.returns-then-k
 returns-then-k c =
     let e = c in
-    zero_bits _ (record { sfits = c.struct_told-1.given.1.0.1 }) ∙ sym (mark _ _ (sym e.tag_fits.ensures ∙ not-false _ e.if-not-tag_fits.false) c.if-k-gt3.false c.if-k.true)
+    zero_bits _ (record { sfits = c.struct_told-1.given.1.0.1 }) ∙ sym (mark _ _ (sym e.tag_fits.ensures ∙ e.if-not-tag_fits.false) c.if-k-gt3.false c.if-k.true)
 
 pub within-requires : goal.within-requires
 within-requires c = rw c.carried-u.ensures (rw (carried_p c.args.t) (omega arith, omega arith))
@@ -57,4 +57,4 @@ within-requires c = rw c.carried-u.ensures (rw (carried_p c.args.t) (omega arith
 pub returns : goal.returns
 returns c =
     let e = c in
-    rw (c.within.ensures, c.carried-u.ensures, to_z-of_z (record { sfits = c.struct_told-2-1.given.1.0.1 })) (sym (data-fits _ _ (sym e.tag_fits.ensures ∙ not-false _ e.if-not-tag_fits.false) c.if-k-gt3.false c.if-k.false))
+    rw (c.within.ensures, c.carried-u.ensures, to_z-of_z (record { sfits = c.struct_told-2-1.given.1.0.1 })) (sym (data-fits _ _ (sym e.tag_fits.ensures ∙ e.if-not-tag_fits.false) c.if-k-gt3.false c.if-k.false))

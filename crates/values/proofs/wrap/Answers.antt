@@ -10,4 +10,4 @@ read_back-requires c = let s = c in record { le_p = omega arith; p_bound = omega
 
 pub returns : goal.returns
 unfolding wrap
-returns c = let s = c in rw (back c.read_back.type-inv, c.read_back.ensures, c.pattern-n.ensures, to_z-of_z s.ranges.x)
+returns c = let s = c in rw (back c.read_back.type_inv, c.read_back.ensures, c.pattern-n.ensures, to_z-of_z s.ranges.x)

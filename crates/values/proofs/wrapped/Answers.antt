@@ -3,4 +3,4 @@ use Rattle.values.proofs.Machine.{back}
 use Rattle.values.proofs.wrapped.Goals as goal
 
 pub returns : goal.returns
-returns c = rw (back c.wrap.type-inv, c.wrap.ensures, to_z-of_z c.ranges.x)
+returns c = rw (back c.wrap.type_inv, c.wrap.ensures, to_z-of_z c.ranges.x)
