@@ -20,32 +20,26 @@ skip_action-next-requires c =
     let i = c.loop-k in
     ready_there (scope_in a.types.now) a.var a.b.now (a.n - i.k) i.at (omega arith) i.invariant.1.0
 
--- the action of this turn
-first : (c : goal.After-skip_action-next) →
-    let a = c.args in
-    let i = c.loop-k in
-    First (scope_in a.types.now) a.var a.b.now (a.n - i.k) i.at c.skip_action-next.result
-first c =
-    let a = c.args in
-    let i = c.loop-k in
-    ready_first (scope_in a.types.now) a.var a.b.now (a.n - i.k) i.at (omega arith) i.invariant.1.0 _ c.skip_action-next.ensures
-
 pub action_fault-f-requires : goal.action_fault-f-requires
-action_fault-f-requires c = let f = first c in record { at_in_bounds = f.inside; b_value = f.limits; b_value_2 = f.typed; env_fits = c.requires.env_fits }
+action_fault-f-requires c =
+    let first : let a = c.args in let i = c.loop-k in First (scope_in a.types.now) a.var a.b.now (a.n - i.k) i.at c.skip_action-next.result = let a = c.args in let i = c.loop-k in ready_first (scope_in a.types.now) a.var a.b.now (a.n - i.k) i.at (omega arith) i.invariant.1.0 _ c.skip_action-next.ensures in
+    let f = first in record { at_in_bounds = f.inside; b_value = f.limits; b_value_2 = f.typed; env_fits = c.requires.env_fits }
 
 pub returns-in_default : goal.returns-in_default
 returns-in_default c =
+    let first : let a = c.args in let i = c.loop-k in First (scope_in a.types.now) a.var a.b.now (a.n - i.k) i.at c.skip_action-next.result = let a = c.args in let i = c.loop-k in ready_first (scope_in a.types.now) a.var a.b.now (a.n - i.k) i.at (omega arith) i.invariant.1.0 _ c.skip_action-next.ensures in
     let a = c.args in
     let i = c.loop-k in
     let e = sym c.in_default.is ∙ c.action_fault-f.ensures in
-    c.in_default.is ∙ faults_here (env_in a.vals.now a.types.now) a.var a.b.now (scope_in a.types.now) (a.n - i.k) i.at _ (first c.before.before.before) i.invariant.1.1 _ e
+    c.in_default.is ∙ faults_here (env_in a.vals.now a.types.now) a.var a.b.now (scope_in a.types.now) (a.n - i.k) i.at _ first i.invariant.1.1 _ e
 
 pub loop-k-preserved : goal.loop-k-preserved
 loop-k-preserved c =
+    let first : let a = c.args in let i = c.loop-k in First (scope_in a.types.now) a.var a.b.now (a.n - i.k) i.at c.skip_action-next.result = let a = c.args in let i = c.loop-k in ready_first (scope_in a.types.now) a.var a.b.now (a.n - i.k) i.at (omega arith) i.invariant.1.0 _ c.skip_action-next.ensures in
     let a = c.args in
     let i = c.loop-k in
     let q : a.n - i.k - 1 ≡ a.n - (i.k + 1) = omega arith in
-    let f = first c.before.before.before in
+    let f = first in
     let e = sym c.in-Clear.is ∙ c.action_fault-f.ensures in
     let g = faults_on (env_in a.vals.now a.types.now) a.var a.b.now (scope_in a.types.now) (a.n - i.k) i.at _ f i.invariant.1.1 e in
     (omega arith, (rw q at f.rest, rw q at g))

@@ -2,14 +2,11 @@ use native.Mathlib.Omega.{arith}
 use Rattle.ends.proofs.Ends.{end_spent, end_left, not-empty, output_marks}
 use Rattle.ends.proofs.output_marked.Goals as goal
 
-abbrev start : goal.After-own_count-got → goal.Start
-start c = c.before.before.before.before.before.before
-
 pub returns-then-room-got : goal.returns-then-room-got
 returns-then-room-got c =
-    let count = c.before.before in
-    let a = (start count).args in
-    let h = (start count).pre in
+    let count = c in
+    let a = c.args in
+    let h = c.pre in
     let m = output_marks a.net.now a.table.now a.starts.now a.tokens.now a.state.now a.c h.0 a.k.0 h.1.0 h.1.1 in
     end_spent _ _ _ _ count.own_count-got.result _ m count.own_count-got.ensures (omega (arith, c.room.ensures.0, c.if-room-got.true))
 
@@ -18,9 +15,9 @@ returns c =
     let part = c in
     let wire = part in
     let room = wire in
-    let count = room.before in
-    let a = (start count).args in
-    let h = (start count).pre in
+    let count = room in
+    let a = c.args in
+    let h = c.pre in
     let m = output_marks a.net.now a.table.now a.starts.now a.tokens.now a.state.now a.c h.0 a.k.0 h.1.0 h.1.1 in
     let f = not-empty a.net.now a.table.now a.starts.now a.tokens.now a.state.now a.c h.0 _ _ _ part.wire_part-part.result.now wire.output_wire-w.ensures.0 part.wire_part-part.ensures c.count.ensures.0 in
     end_left _ _ _ _ count.own_count-got.result _ m count.own_count-got.ensures _ (omega (arith, room.room.ensures.0, wire.if-room-got.false)) f

@@ -19,32 +19,24 @@ skip_action-next-requires c =
     let i = c.loop-var in
     ready_there (scope_in a.types.now) true a.body.now (a.vars - i.var) i.at (omega arith) i.invariant.1.ready
 
--- the action of this turn
-first : (c : goal.After-skip_action-next) →
-    let a = c.args in
-    let i = c.loop-var in
-    First (scope_in a.types.now) true a.body.now (a.vars - i.var) i.at c.skip_action-next.result
-first c =
-    let a = c.args in
-    let i = c.loop-var in
-    ready_first (scope_in a.types.now) true a.body.now (a.vars - i.var) i.at (omega arith) i.invariant.1.ready _ c.skip_action-next.ensures
-
 pub keep_one-requires : goal.keep_one-requires
 keep_one-requires c =
+    let first : let a = c.args in let i = c.loop-var in First (scope_in a.types.now) true a.body.now (a.vars - i.var) i.at c.skip_action-next.result = let a = c.args in let i = c.loop-var in ready_first (scope_in a.types.now) true a.body.now (a.vars - i.var) i.at (omega arith) i.invariant.1.ready _ c.skip_action-next.ensures in
     let s = c in
     let p = s.requires in
     let i = c.loop-var in
     let t = c.loop-var-test.true in
-    let f = first c.before in
+    let f = first in
     record { standing = i.invariant.1.left.became.stands; j_bound = omega (arith, t, p.vars_bound.0); workable = workable f; env_fits = p.env_fits; can_keep = kept_can _ _ _ _ _ _ s.requires.standing _ s.requires.k_lt_boxes _ _ _ _ _ p.keeps p.vars_bound.1 _ _ _ _ t f i.invariant.1 }
 
 pub loop-var-preserved : goal.loop-var-preserved
 loop-var-preserved c =
+    let first : let a = c.args in let i = c.loop-var in First (scope_in a.types.now) true a.body.now (a.vars - i.var) i.at c.skip_action-next.result = let a = c.args in let i = c.loop-var in ready_first (scope_in a.types.now) true a.body.now (a.vars - i.var) i.at (omega arith) i.invariant.1.ready _ c.skip_action-next.ensures in
     let s = c in
     let p = s.requires in
     let i = c.loop-var in
     let t = c.loop-var-test.true in
-    (omega arith, kept_next _ _ _ _ _ _ s.requires.standing _ s.requires.k_lt_boxes _ _ _ _ _ p.keeps p.vars_bound.1 _ _ _ _ t (first c.before.before.before.before) i.invariant.1 _ c.keep_one.ensures)
+    (omega arith, kept_next _ _ _ _ _ _ s.requires.standing _ s.requires.k_lt_boxes _ _ _ _ _ p.keeps p.vars_bound.1 _ _ _ _ t first i.invariant.1 _ c.keep_one.ensures)
 
 pub shape_of-state : goal.shape_of-state
 shape_of-state c = c.loop-var.invariant.1.left.became.long

@@ -18,30 +18,22 @@ skip_action-next-requires c =
     let i = c.loop-out in
     ready_there (scope_in a.types.now) false a.body.now (a.outs - i.out) i.at (omega arith) i.invariant.1.ready
 
--- the action of this turn
-first : (c : goal.After-skip_action-next) →
-    let a = c.args in
-    let i = c.loop-out in
-    First (scope_in a.types.now) false a.body.now (a.outs - i.out) i.at c.skip_action-next.result
-first c =
-    let a = c.args in
-    let i = c.loop-out in
-    ready_first (scope_in a.types.now) false a.body.now (a.outs - i.out) i.at (omega arith) i.invariant.1.ready _ c.skip_action-next.ensures
-
 pub put_one-requires : goal.put_one-requires
 put_one-requires c =
+    let first : let a = c.args in let i = c.loop-out in First (scope_in a.types.now) false a.body.now (a.outs - i.out) i.at c.skip_action-next.result = let a = c.args in let i = c.loop-out in ready_first (scope_in a.types.now) false a.body.now (a.outs - i.out) i.at (omega arith) i.invariant.1.ready _ c.skip_action-next.ensures in
     let s = c in
     let i = c.loop-out in
-    let f = first c.before in
+    let f = first in
     let t = c.loop-out-test.true in
     record { standing = i.invariant.1.left.became.stands; k_lt_boxes = s.requires.k_lt_boxes; j_in_bounds = omega (arith, s.requires.outs_value, t); workable = workable f; env_fits = s.requires.env_fits; places = sent_places _ _ _ _ _ _ _ _ _ _ _ _ s.requires.outs_value _ _ _ _ t f i.invariant.1 }
 
 pub loop-out-preserved : goal.loop-out-preserved
 loop-out-preserved c =
+    let first : let a = c.args in let i = c.loop-out in First (scope_in a.types.now) false a.body.now (a.outs - i.out) i.at c.skip_action-next.result = let a = c.args in let i = c.loop-out in ready_first (scope_in a.types.now) false a.body.now (a.outs - i.out) i.at (omega arith) i.invariant.1.ready _ c.skip_action-next.ensures in
     let s = c in
     let i = c.loop-out in
     let t = c.loop-out-test.true in
-    (omega arith, sent_next _ _ _ _ _ _ _ _ _ _ _ _ s.requires.outs_value _ _ _ _ t (first c.before.before.before.before) i.invariant.1 _ c.put_one.ensures)
+    (omega arith, sent_next _ _ _ _ _ _ _ _ _ _ _ _ s.requires.outs_value _ _ _ _ t first i.invariant.1 _ c.put_one.ensures)
 
 pub shape_of-state : goal.shape_of-state
 shape_of-state c = c.loop-out.invariant.1.left.became.long

@@ -33,18 +33,16 @@ returns-then-i-c c =
     input_part start.args.net.now start.args.table.now start.args.c start.requires.tabled start.args.tokens.now start.args.counted start.args.part.now (wide.result - start.args.c.boxes) start.args.k.0 start.args.fields.now _
     (omega (arith, wide.ensures.0)) (omega (arith, wide.ensures.0, first)) (omega (arith, wide.ensures.0, first, c.if-i-c.true)) start.requires.known c.input_fits.ensures
 
--- a process after the boxes and the inputs is an output
-is_output_lem : (c : goal.Else-i-c) → let a = c.args in a.c.boxes + a.c.inputs ≤ a.k.0
-is_output_lem c = omega (arith, c.wide-j.ensures.0, c.if-j-c.false, c.if-i-c.false)
-
 pub output_fits-requires : goal.output_fits-requires
 unfolding bare_net
 output_fits-requires c =
+    let is_output_lem : let a = c.args in a.c.boxes + a.c.inputs ≤ a.k.0 = omega (arith, c.wide-j.ensures.0, c.if-j-c.false, c.if-i-c.false) in
     let start = c in
-    let from = is_output_lem c in
+    let from = is_output_lem in
     record { tabled = start.requires.tabled; inputs_bound = from; k_bound = start.requires.k_bound; part_len = start.requires.part_len ∙ output_long start.args.net.now start.args.table.now start.args.c start.requires.tabled start.args.k.0 from start.requires.k_bound }
 
 pub returns : goal.returns
 returns c =
+    let is_output_lem : let a = c.args in a.c.boxes + a.c.inputs ≤ a.k.0 = omega (arith, c.wide-j.ensures.0, c.if-j-c.false, c.if-i-c.false) in
     let start = c in
-    output_part start.args.net.now start.args.table.now start.args.c start.requires.tabled start.args.tokens.now start.args.counted start.args.part.now start.args.k.0 _ (is_output_lem c.before) start.requires.k_bound c.output_fits.ensures
+    output_part start.args.net.now start.args.table.now start.args.c start.requires.tabled start.args.tokens.now start.args.counted start.args.part.now start.args.k.0 _ is_output_lem start.requires.k_bound c.output_fits.ensures

@@ -11,10 +11,6 @@ use Rattle.trying.proofs.judge.Goals as goal
 pub skip-outs-requires : goal.skip-outs-requires
 skip-outs-requires c = let h = c.requires in guard_there _ _ _ h.work.laid _ h.guard
 
--- where the output actions begin
-outs_at_lem : (c : goal.After-skip-outs) → c.skip-outs.result ≡ c.requires.work.parts.outs
-outs_at_lem c = let h = c.requires in c.skip-outs.ensures ∙ guard_end _ _ _ h.work.laid _ h.guard
-
 -- what is known where they are open
 open_at : (c : goal.In-Open)
     → let h = c.before.before.before.before.before.before.before in
@@ -26,13 +22,16 @@ open_at c =
     opened _ _ _ _ h.work _ _ _ h.guard _ _ (outs_at_lem d.before) (sym c.in-Open.is ∙ d.outs_open.ensures)
 
 pub outs_open-requires : goal.outs_open-requires
-outs_open-requires c = outs_there _ _ _ c.requires.work.laid _ (outs_at_lem c)
+outs_open-requires c =
+    let outs_at_lem : c.skip-outs.result ≡ c.requires.work.parts.outs = let h = c.requires in c.skip-outs.ensures ∙ guard_end _ _ _ h.work.laid _ h.guard in
+    outs_there _ _ _ c.requires.work.laid _ outs_at_lem
 
 pub returns-in_default : goal.returns-in_default
 returns-in_default c =
+    let outs_at_lem : c.skip-outs.result ≡ c.requires.work.parts.outs = let h = c.requires in c.skip-outs.ensures ∙ guard_end _ _ _ h.work.laid _ h.guard in
     let d = c in
     let h = d.requires in
-    judge_shut _ _ _ _ h.work _ _ _ h.guard _ (outs_at_lem d.before) (sym c.in_default.is ∙ d.outs_open.ensures)
+    judge_shut _ _ _ _ h.work _ _ _ h.guard _ outs_at_lem (sym c.in_default.is ∙ d.outs_open.ensures)
 
 pub value-requires : goal.value-requires
 value-requires c =
@@ -49,9 +48,10 @@ returns-then-not-is_true c =
 
 pub chosen-requires : goal.chosen-requires
 chosen-requires c =
+    let outs_at_lem : c.skip-outs.result ≡ c.requires.work.parts.outs = let h = c.requires in c.skip-outs.ensures ∙ guard_end _ _ _ h.work.laid _ h.guard in
     let o = c.before.before.before.before.before.before in
     let h = o.requires in
-    record { work = h.work; outs = outs_at_lem o.before.before.before.before; sets = (open_at o).sets }
+    record { work = h.work; outs = outs_at_lem sets = (open_at o).sets }
 
 pub returns-in-Fault : goal.returns-in-Fault
 returns-in-Fault c =

@@ -22,23 +22,18 @@ loop-j-init c =
     let a = s.args in
     (omega arith, (ap (λ j. is_read (patterns_from false j 0 a.b.now)) (minus_zero a.n) ∙ s.requires.b_value, matched_start a.b.now a.ins.now a.n a.k))
 
--- the pattern of this turn
-abbrev entered : goal.In-loop-j → goal.Start
-entered c = c.before.before.before.before.before
-
-stands : (c : goal.In-loop-j) → is_read (read_pattern (pattern_codes false) (drop c.loop-j.at (entered c).args.b.now)) ≡ true
-unfolding patterns_from
-stands c = let a = (entered c).args in let i = c.loop-j in first_read (read_pattern (pattern_codes false)) a.b.now (a.n - i.j) i.at (omega arith) i.invariant.1.0
-
 pub skip_pattern-at-requires : goal.skip_pattern-at-requires
-skip_pattern-at-requires c = pattern_there (pattern_codes false) (entered c).args.b.now c.loop-j.at (stands c)
+skip_pattern-at-requires c =
+    let stands : is_read (read_pattern (pattern_codes false) (drop c.loop-j.at c.args.b.now)) ≡ true = let a = c.args in let i = c.loop-j in first_read (read_pattern (pattern_codes false)) a.b.now (a.n - i.j) i.at (omega arith) i.invariant.1.0 in
+    pattern_there (pattern_codes false) c.args.b.now c.loop-j.at stands
 
 pub loop-j-preserved : goal.loop-j-preserved
 loop-j-preserved c =
-    let l = c.before in
-    let a = (entered l).args in
+    let stands : is_read (read_pattern (pattern_codes false) (drop c.loop-j.at c.args.b.now)) ≡ true = let a = c.args in let i = c.loop-j in first_read (read_pattern (pattern_codes false)) a.b.now (a.n - i.j) i.at (omega arith) i.invariant.1.0 in
+    let l = c in
+    let a = c.args in
     let i = l.loop-j in
-    let e = pattern_skip (pattern_codes false) a.b.now i.at (stands l) _ c.skip_pattern-at.ensures in
+    let e = pattern_skip (pattern_codes false) a.b.now i.at stands _ c.skip_pattern-at.ensures in
     let m : i.j < a.n = omega arith in
     (omega arith, (read_step false a.b.now a.ins.now a.n i.j i.at _ m i.invariant.1.0 e, sym (matched_step a.b.now a.ins.now a.n i.j a.k i.at _ m (omega arith) i.invariant.1.0 e) ∙ i.invariant.1.1))
 

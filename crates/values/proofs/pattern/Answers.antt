@@ -14,34 +14,29 @@ use Rattle.values.proofs.pattern.Goals as goal
 pub nonzero_rem-r : goal.nonzero_rem-r
 nonzero_rem-r c = rem_need c.args.t.p c.args.x c.ranges.x c.requires c.power-m.ensures
 
--- the branch taken: r + m is the pattern
-low : (c : goal.Then-r-lt0) → to_z w64 (of_z w64 (rem_z (to_z w64 (of_z w64 c.args.x)) (to_z w64 (of_z w64 c.power-m.result)))) +ℤ to_z w64 (of_z w64 c.power-m.result) ≡ pos (mod_z c.args.x (2 ^ c.args.t.p))
-low c =
-    let s = c in
-    let p = s.args.t.p in
-    let e = rem_is p s.args.x s.ranges.x s.requires c.power-m.ensures in
-    rw (e, pow_is p s.requires c.power-m.ensures) (rem_low s.args.x (2 ^ p) (pow_pos p) (rw e at c.if-r-lt0.true))
-
-high : (c : goal.Else-r-lt0) → rem_z (to_z w64 (of_z w64 c.args.x)) (to_z w64 (of_z w64 c.power-m.result)) ≡ pos (mod_z c.args.x (2 ^ c.args.t.p))
-high c =
-    let s = c in
-    let p = s.args.t.p in
-    let e = rem_is p s.args.x s.ranges.x s.requires c.power-m.ensures in
-    rw (to_z-of_z s.ranges.x, pow_is p s.requires c.power-m.ensures) (rem_high s.args.x (2 ^ p) (pow_pos p) (rw e at c.if-r-lt0.false))
-
 pub overflow_add-result : goal.overflow_add-result
-overflow_add-result c = let s = c in pos_fits (low c) (mod_small s.args.t.p s.args.x s.ranges.x s.requires c.power-m.ensures)
+overflow_add-result c =
+    let low : to_z w64 (of_z w64 (rem_z (to_z w64 (of_z w64 c.args.x)) (to_z w64 (of_z w64 c.power-m.result)))) +ℤ to_z w64 (of_z w64 c.power-m.result) ≡ pos (mod_z c.args.x (2 ^ c.args.t.p)) = let s = c in let p = s.args.t.p in let e = rem_is p s.args.x s.ranges.x s.requires c.power-m.ensures in rw (e, pow_is p s.requires c.power-m.ensures) (rem_low s.args.x (2 ^ p) (pow_pos p) (rw e at c.if-r-lt0.true)) in
+    let s = c in pos_fits low (mod_small s.args.t.p s.args.x s.ranges.x s.requires c.power-m.ensures)
 
 pub overflow_cast-result : goal.overflow_cast-result
-overflow_cast-result c = let s = c in nat_cast (low c) (mod_small s.args.t.p s.args.x s.ranges.x s.requires c.power-m.ensures)
+overflow_cast-result c =
+    let low : to_z w64 (of_z w64 (rem_z (to_z w64 (of_z w64 c.args.x)) (to_z w64 (of_z w64 c.power-m.result)))) +ℤ to_z w64 (of_z w64 c.power-m.result) ≡ pos (mod_z c.args.x (2 ^ c.args.t.p)) = let s = c in let p = s.args.t.p in let e = rem_is p s.args.x s.ranges.x s.requires c.power-m.ensures in rw (e, pow_is p s.requires c.power-m.ensures) (rem_low s.args.x (2 ^ p) (pow_pos p) (rw e at c.if-r-lt0.true)) in
+    let s = c in nat_cast low (mod_small s.args.t.p s.args.x s.ranges.x s.requires c.power-m.ensures)
 
 pub returns-then-r-lt0 : goal.returns-then-r-lt0
 unfolding pattern
-returns-then-r-lt0 c = let s = c in nat_cast_is (low c) (mod_small s.args.t.p s.args.x s.ranges.x s.requires c.power-m.ensures)
+returns-then-r-lt0 c =
+    let low : to_z w64 (of_z w64 (rem_z (to_z w64 (of_z w64 c.args.x)) (to_z w64 (of_z w64 c.power-m.result)))) +ℤ to_z w64 (of_z w64 c.power-m.result) ≡ pos (mod_z c.args.x (2 ^ c.args.t.p)) = let s = c in let p = s.args.t.p in let e = rem_is p s.args.x s.ranges.x s.requires c.power-m.ensures in rw (e, pow_is p s.requires c.power-m.ensures) (rem_low s.args.x (2 ^ p) (pow_pos p) (rw e at c.if-r-lt0.true)) in
+    let s = c in nat_cast_is low (mod_small s.args.t.p s.args.x s.ranges.x s.requires c.power-m.ensures)
 
 pub overflow_cast-result-2 : goal.overflow_cast-result-2
-overflow_cast-result-2 c = let s = c in nat_cast (high c) (mod_small s.args.t.p s.args.x s.ranges.x s.requires c.power-m.ensures)
+overflow_cast-result-2 c =
+    let high : rem_z (to_z w64 (of_z w64 c.args.x)) (to_z w64 (of_z w64 c.power-m.result)) ≡ pos (mod_z c.args.x (2 ^ c.args.t.p)) = let s = c in let p = s.args.t.p in let e = rem_is p s.args.x s.ranges.x s.requires c.power-m.ensures in rw (to_z-of_z s.ranges.x, pow_is p s.requires c.power-m.ensures) (rem_high s.args.x (2 ^ p) (pow_pos p) (rw e at c.if-r-lt0.false)) in
+    let s = c in nat_cast high (mod_small s.args.t.p s.args.x s.ranges.x s.requires c.power-m.ensures)
 
 pub returns : goal.returns
 unfolding pattern
-returns c = let s = c in nat_cast_is (high c) (mod_small s.args.t.p s.args.x s.ranges.x s.requires c.power-m.ensures)
+returns c =
+    let high : rem_z (to_z w64 (of_z w64 c.args.x)) (to_z w64 (of_z w64 c.power-m.result)) ≡ pos (mod_z c.args.x (2 ^ c.args.t.p)) = let s = c in let p = s.args.t.p in let e = rem_is p s.args.x s.ranges.x s.requires c.power-m.ensures in rw (to_z-of_z s.ranges.x, pow_is p s.requires c.power-m.ensures) (rem_high s.args.x (2 ^ p) (pow_pos p) (rw e at c.if-r-lt0.false)) in
+    let s = c in nat_cast_is high (mod_small s.args.t.p s.args.x s.ranges.x s.requires c.power-m.ensures)
