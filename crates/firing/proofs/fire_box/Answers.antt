@@ -7,13 +7,6 @@ use Rattle.marking.proofs.Boxes.{box_ready}
 use Rattle.firing.proofs.Deeds.{ready, whole_parts, works, fired_as}
 use Rattle.firing.proofs.fire_box.Goals as goal
 
--- the body of the rule
-body_is : (c : goal.After-rule_body-body)
-    → let a = c.args in
-    c.rule_body-body.result.now ≡ body_at a.net.now (rule_at (index_in a.table.now a.c) a.k.0 a.r.0)
-unfolding body_at
-body_is c = c.rule_body-body.ensures.bytes
-
 pub box_at-at-requires : goal.box_at-at-requires
 box_at-at-requires c = let q = c.requires in record { tabled = q.standing.tabled; b_lt_boxes = q.box_ready.known }
 
@@ -30,19 +23,21 @@ rule_body-body-requires c =
 
 pub actions_at-from-requires : goal.actions_at-from-requires
 actions_at-from-requires c =
+    let body_is : let a = c.args in c.rule_body-body.result.now ≡ body_at a.net.now (rule_at (index_in a.table.now a.c) a.k.0 a.r.0) = unfold body_at in c.rule_body-body.ensures.bytes in
     let shape = c in
     let entry = shape in
     let q = entry.requires in
-    let w = ready _ _ _ _ _ _ q.standing _ q.box_ready.known _ entry.box_at-at.ensures.0 _ _ _ _ shape.shape_of-a.ensures _ q.box_ready.there _ (body_is c) in
-    record { ins_bound = (w.few_ins, w.few_vars); parted = whole_parts _ _ _ _ _ _ q.standing _ q.box_ready.known _ entry.box_at-at.ensures.0 _ _ _ _ shape.shape_of-a.ensures _ q.box_ready.there _ (body_is c) }
+    let w = ready _ _ _ _ _ _ q.standing _ q.box_ready.known _ entry.box_at-at.ensures.0 _ _ _ _ shape.shape_of-a.ensures _ q.box_ready.there _ body_is in
+    record { ins_bound = (w.few_ins, w.few_vars); parted = whole_parts _ _ _ _ _ _ q.standing _ q.box_ready.known _ entry.box_at-at.ensures.0 _ _ _ _ shape.shape_of-a.ensures _ q.box_ready.there _ body_is }
 
 pub scope-types-requires : goal.scope-types-requires
 scope-types-requires c =
+    let body_is : let a = c.args in c.rule_body-body.result.now ≡ body_at a.net.now (rule_at (index_in a.table.now a.c) a.k.0 a.r.0) = unfold body_at in c.rule_body-body.ensures.bytes in
     let body = c.before.before.before in
     let shape = body in
     let entry = shape in
     let q = entry.requires in
-    let w = ready _ _ _ _ _ _ q.standing _ q.box_ready.known _ entry.box_at-at.ensures.0 _ _ _ _ shape.shape_of-a.ensures _ q.box_ready.there _ (body_is body) in
+    let w = ready _ _ _ _ _ _ q.standing _ q.box_ready.known _ entry.box_at-at.ensures.0 _ _ _ _ shape.shape_of-a.ensures _ q.box_ready.there _ body_is in
     record { ins_bound = (w.few_ins, w.few_vars); b_value = ins_read _ _ _ w.laid }
 
 pub values-vals-requires : goal.values-vals-requires
@@ -54,6 +49,7 @@ values-vals-requires c =
 
 pub apply-requires : goal.apply-requires
 apply-requires c =
+    let body_is : let a = c.args in c.rule_body-body.result.now ≡ body_at a.net.now (rule_at (index_in a.table.now a.c) a.k.0 a.r.0) = unfold body_at in c.rule_body-body.ensures.bytes in
     let seen = c in
     let typed = seen in
     let begun = typed in
@@ -61,10 +57,11 @@ apply-requires c =
     let shape = body in
     let entry = shape in
     let q = entry.requires in
-    record { standing = q.standing; works = works _ _ _ _ _ _ q.standing _ q.box_ready.known _ entry.box_at-at.ensures.0 _ _ _ _ shape.shape_of-a.ensures _ q.box_ready.there _ (body_is body) _ begun.actions_at-from.ensures _ seen.values-vals.ensures _ typed.scope-types.ensures q.box_ready.sound }
+    record { standing = q.standing; works = works _ _ _ _ _ _ q.standing _ q.box_ready.known _ entry.box_at-at.ensures.0 _ _ _ _ shape.shape_of-a.ensures _ q.box_ready.there _ body_is _ begun.actions_at-from.ensures _ seen.values-vals.ensures _ typed.scope-types.ensures q.box_ready.sound }
 
 pub returns : goal.returns
 returns c =
+    let body_is : let a = c.args in c.rule_body-body.result.now ≡ body_at a.net.now (rule_at (index_in a.table.now a.c) a.k.0 a.r.0) = unfold body_at in c.rule_body-body.ensures.bytes in
     let done = c in
     let seen = done in
     let typed = seen in
@@ -73,4 +70,4 @@ returns c =
     let shape = body in
     let entry = shape in
     let q = entry.requires in
-    fired_as _ _ _ _ _ _ q.standing _ q.box_ready.known _ entry.box_at-at.ensures.0 _ _ _ _ shape.shape_of-a.ensures _ q.box_ready.there _ (body_is body) _ begun.actions_at-from.ensures _ seen.values-vals.ensures _ typed.scope-types.ensures _ done.apply.ensures
+    fired_as _ _ _ _ _ _ q.standing _ q.box_ready.known _ entry.box_at-at.ensures.0 _ _ _ _ shape.shape_of-a.ensures _ q.box_ready.there _ body_is _ begun.actions_at-from.ensures _ seen.values-vals.ensures _ typed.scope-types.ensures _ done.apply.ensures

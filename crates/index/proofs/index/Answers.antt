@@ -43,7 +43,7 @@ pub loop-at-smaller : goal.loop-at-smaller
 loop-at-smaller c = let w = field_found _ _ _ _ _ (sym (sym c.in-At.is ∙ c.field_at-f.ensures)) in omega arith
 
 pub loop-at-preserved : goal.loop-at-preserved
-loop-at-preserved c = let i = c.loop-at.invariant in (on _ _ _ _ i.0 _ _ _ (omega arith) (sym c.in-At.is ∙ c.field_at-f.ensures) _ _ (sym c.if-fault-ne0.false ∙ c.field_fault-fault.ensures ∙ ap (field_fault _ _ _) c.part-body.ensures.bytes) c.note-c.ensures, c.note-c.auto.0 ∙ i.1, still_sound _ _ _ _ _ _ _ _ _ i.2 (sym (sym c.in-At.is ∙ c.field_at-f.ensures)) (sym (sym c.if-fault-ne0.false ∙ c.field_fault-fault.ensures ∙ ap (field_fault _ _ _) c.part-body.ensures.bytes)) c.note-c.ensures)
+loop-at-preserved c = let i = c.loop-at.invariant in (on _ _ _ _ i.0 _ _ _ (omega arith) (sym c.in-At.is ∙ c.field_at-f.ensures) _ _ (sym c.if-fault-ne0.false ∙ c.field_fault-fault.ensures ∙ ap (field_fault _ _ _) c.part-body.ensures.bytes) c.note-c.ensures, c.note-c.auto.table ∙ i.1, still_sound _ _ _ _ _ _ _ _ _ i.2 (sym (sym c.in-At.is ∙ c.field_at-f.ensures)) (sym (sym c.if-fault-ne0.false ∙ c.field_fault-fault.ensures ∙ ap (field_fault _ _ _) c.part-body.ensures.bytes)) c.note-c.ensures)
 
 pub shape_of-tab : goal.shape_of-tab
 shape_of-tab c = c.loop-at.invariant.1

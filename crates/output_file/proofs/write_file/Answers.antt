@@ -66,7 +66,7 @@ loop-k-preserved c =
     let w = c.write_field-at in
     let last = w.new.out in (
       omega (arith, l.invariant.0),
-      same_len_mid l.at (length start.args.out.now - l.at) l.out last w.auto.1.1.1.1.1.1.0 ∙ l.invariant.1,
+      same_len_mid l.at (length start.args.out.now - l.at) l.out last w.auto.out ∙ l.invariant.1,
       omega (arith, w.ensures.0, written-room (bare_net start.args.net.now start.args.table.now start.args.c) start.args.state.now (start.args.c.boxes + start.args.c.inputs) start.args.out.now l.out l.at l.k l.invariant.3 less room),
       written_next (bare_net start.args.net.now start.args.table.now start.args.c) start.args.state.now (start.args.c.boxes + start.args.c.inputs) start.args.out.now l.out l.at l.k l.invariant.3 w.result last less room w.ensures.0 w.ensures.1,
     )

@@ -14,7 +14,7 @@ pub ports_of-requires : goal.ports_of-requires
 ports_of-requires c = fits_at_lem _ _ _ c.loop-b.b _ c.requires.boxes_fit c.entry-at.ensures.0 (omega arith)
 
 pub loop-b-preserved : goal.loop-b-preserved
-loop-b-preserved c = let l = c.loop-b in let a = c.args in let m = region-length 64 a.boxes a.tab.now (omega arith) in (omega arith, c.tally.auto.0 ∙ l.invariant.1, box_more a.net.now l.counts (region 64 a.boxes a.tab.now) l.b c.entry-at.result (c.entry-at.ensures.0 ∙ sym (region_at 64 a.boxes a.tab.now l.b (omega arith))) (omega arith) a.outs _ _ c.ports_of.ensures c.tally.ensures ∙ l.invariant.2)
+loop-b-preserved c = let l = c.loop-b in let a = c.args in let m = region-length 64 a.boxes a.tab.now (omega arith) in (omega arith, c.tally.auto.counts ∙ l.invariant.1, box_more a.net.now l.counts (region 64 a.boxes a.tab.now) l.b c.entry-at.result (c.entry-at.ensures.0 ∙ sym (region_at 64 a.boxes a.tab.now l.b (omega arith))) (omega arith) a.outs _ _ c.ports_of.ensures c.tally.ensures ∙ l.invariant.2)
 
 pub shape_of-counts : goal.shape_of-counts
 shape_of-counts c = c.loop-b.invariant.1

@@ -11,7 +11,7 @@ pub loop-k-init : goal.loop-k-init
 loop-k-init c = (omega arith, refl, refl)
 
 pub loop-k-preserved : goal.loop-k-preserved
-loop-k-preserved c = let l = c.loop-k in let a = c.args in let m = region-length a.base a.n a.tab.now (omega arith) in (omega arith, c.touch.auto.0 ∙ l.invariant.1, end_more a.net.now l.counts (region a.base a.n a.tab.now) l.k c.entry-at.result (c.entry-at.ensures.0 ∙ sym (region_at a.base a.n a.tab.now l.k (omega arith))) (omega arith) _ _ c.byte_at.ensures c.touch.ensures ∙ l.invariant.2)
+loop-k-preserved c = let l = c.loop-k in let a = c.args in let m = region-length a.base a.n a.tab.now (omega arith) in (omega arith, c.touch.auto.counts ∙ l.invariant.1, end_more a.net.now l.counts (region a.base a.n a.tab.now) l.k c.entry-at.result (c.entry-at.ensures.0 ∙ sym (region_at a.base a.n a.tab.now l.k (omega arith))) (omega arith) _ _ c.byte_at.ensures c.touch.ensures ∙ l.invariant.2)
 
 pub shape_of-counts : goal.shape_of-counts
 shape_of-counts c = c.loop-k.invariant.1

@@ -11,7 +11,7 @@ pub loop-i-init : goal.loop-i-init
 loop-i-init c = (omega arith, refl, refl)
 
 pub loop-i-preserved : goal.loop-i-preserved
-loop-i-preserved c = let l = c.loop-i in let a = c.args in (omega arith, c.touch.auto.0 ∙ l.invariant.1, ap (λ (t : List ℕ). tally_of t (drop (l.i + 1) a.ws.now)) c.touch.ensures ∙ sym (tally_more l.counts a.ws.now l.i (omega arith)) ∙ l.invariant.2)
+loop-i-preserved c = let l = c.loop-i in let a = c.args in (omega arith, c.touch.auto.counts ∙ l.invariant.1, ap (λ (t : List ℕ). tally_of t (drop (l.i + 1) a.ws.now)) c.touch.ensures ∙ sym (tally_more l.counts a.ws.now l.i (omega arith)) ∙ l.invariant.2)
 
 pub shape_of-counts : goal.shape_of-counts
 shape_of-counts c = c.loop-i.invariant.1

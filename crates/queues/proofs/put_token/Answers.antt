@@ -7,7 +7,7 @@ use Rattle.queues.proofs.Stores.{put_token}
 use Rattle.queues.proofs.put_token.Goals as goal
 
 pub shape_of-s : goal.shape_of-s
-shape_of-s c = same_len_mid 1 4 (set c.args.s.now 0 c.args.t.tag) c.put_value.new.s c.put_value.auto.0 ∙ simp length-set
+shape_of-s c = same_len_mid 1 4 (set c.args.s.now 0 c.args.t.tag) c.put_value.new.s c.put_value.auto.s ∙ simp length-set
 
 pub returns : goal.returns
 returns c =

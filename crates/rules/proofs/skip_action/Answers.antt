@@ -15,7 +15,7 @@ bounds-b-at c =
 pub overflow_add-at : goal.overflow_add-at
 overflow_add-at c =
     let inside : c.args.at < length c.args.b.now = action_inside c.args.b.now c.args.at _ c.requires refl in
-    let s = c in record { fits = omega (arith, inside, s.good.0.0) }
+    let s = c in record { fits = omega (arith, inside, s.well_formed.0.0) }
 
 pub skip-requires : goal.skip-requires
 skip-requires c =
@@ -30,7 +30,7 @@ returns-then-holds_expression c =
 pub overflow_add-result : goal.overflow_add-result
 overflow_add-result c =
     let inside : c.args.at < length c.args.b.now = action_inside c.args.b.now c.args.at _ c.requires refl in
-    let s = c in record { fits = omega (arith, inside, s.good.0.0) }
+    let s = c in record { fits = omega (arith, inside, s.well_formed.0.0) }
 
 pub returns : goal.returns
 returns c = let s = c in bare_skip _ s.args.at _ s.requires refl (sym c.holds_expression.ensures ∙ c.if-holds_expression.false)

@@ -11,7 +11,7 @@ unfolding bare_net
 loop-k-init c =
     let start = c in
     let zeros = cleared start.args.state.now _ start.args.size _ start.requires.size_in_bounds start.requires.size_value c.clear.ensures in
-    let same = same_len_mid 0 (start.args.size - 0) start.args.state.now c.clear.new.s c.clear.auto.0 in
+    let same = same_len_mid 0 (start.args.size - 0) start.args.state.now c.clear.new.s c.clear.auto.s in
     (omega arith, refl, omega (arith, same, start.requires.size_in_bounds), load_first start.args.net.now start.args.table.now start.args.c start.requires.tabled _ _ zeros)
 
 pub overflow_cast-k : goal.overflow_cast-k
@@ -31,13 +31,13 @@ loop-k-preserved c =
     let l = c.loop-k in
     let start = c in
     let b = c.load_box in
-    (omega arith, b.auto.1.1.1.1.1.0 ∙ l.invariant.1, omega (arith, b.auto.1.1.1.1.1.0, l.invariant.2), load_next start.args.net.now start.args.table.now start.args.c start.requires.tabled l.k _ l.state _ (omega arith) l.invariant.3 b.ensures)
+    (omega arith, b.auto.state ∙ l.invariant.1, omega (arith, b.auto.state, l.invariant.2), load_next start.args.net.now start.args.table.now start.args.c start.requires.tabled l.k _ l.state _ (omega arith) l.invariant.3 b.ensures)
 
 pub shape_of-state : goal.shape_of-state
 shape_of-state c =
     let start = c in
     let e = c.clear in
-    c.loop-k.invariant.1 ∙ same_len_mid 0 (start.args.size - 0) start.args.state.now e.new.s e.auto.0
+    c.loop-k.invariant.1 ∙ same_len_mid 0 (start.args.size - 0) start.args.state.now e.new.s e.auto.s
 
 pub returns : goal.returns
 unfolding bare_net

@@ -17,7 +17,7 @@ loop-j-preserved c =
     let p = c in
     let b = c.args.body in
     let z = back (omega arith) ∙ p.value_at-z.ensures.0 ∙ ap (λ (n : ℕ). value_at b.now (n + 2)) p.variable_start-at.ensures.0 in
-    (omega arith, l.invariant.1, l.invariant.2, p.put_var.auto.0 ∙ l.invariant.3, p.put_var.ensures ∙ load_turn _ _ _ l.j _ l.invariant.4 z)
+    (omega arith, l.invariant.1, l.invariant.2, p.put_var.auto.s ∙ l.invariant.3, p.put_var.ensures ∙ load_turn _ _ _ l.j _ l.invariant.4 z)
 
 pub returns : goal.returns
 returns c = let l = c.loop-j in load_done _ _ _ l.j l.invariant.4 (omega arith) (omega arith)

@@ -8,7 +8,7 @@ use Rattle.tokens.proofs.put_head.Goals as goal
 pub shape_of-out : goal.shape_of-out
 shape_of-out c =
     let a = c.args in
-    same_len_mid 1 2 (set a.out.now 0 33) c.put_two.new.s c.put_two.auto.0 ∙ simp length-set
+    same_len_mid 1 2 (set a.out.now 0 33) c.put_two.new.s c.put_two.auto.s ∙ simp length-set
 
 pub returns : goal.returns
 returns c =

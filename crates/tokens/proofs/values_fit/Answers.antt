@@ -17,22 +17,13 @@ within-requires c =
     let l = c.loop-j in
     let s = c in let need = precise_at s.args.body.now l.j _ _ s.requires (omega arith) c.variable_start.ensures.0 c.type_at-t.ensures in record { le_p = need.0; p_bound = need.1 }
 
--- one variable
-turn_at : (c : goal.After-within) (x : Bool) → c.within.result ≡ x →
-    (let l = c.loop-j in
-    let a = c.args in
-    let n = c.wide-n.result in
-    from_variable a.body.now a.part.now n l.j ≡ (x && from_variable a.body.now a.part.now n (l.j + 1)))
-turn_at c x e =
-    value_turn _ _ _ _ _ _ _ _ x (omega arith) c.variable_start.ensures.0 c.type_at-t.ensures (back (omega arith) ∙ c.var_at.ensures.0) c.within.ensures e
-
 pub returns-then-not-within : goal.returns-then-not-within
-returns-then-not-within c = sym (turn_at c.before false c.if-not-within.true) ∙ c.loop-j.invariant.2
+returns-then-not-within c = sym (value_turn _ _ _ _ _ _ _ _ false (omega arith) c.variable_start.ensures.0 c.type_at-t.ensures (back (omega arith) ∙ c.var_at.ensures.0) c.within.ensures c.if-not-within.true) ∙ c.loop-j.invariant.2
 
 pub loop-j-preserved : goal.loop-j-preserved
 loop-j-preserved c =
     let l = c.loop-j in
-    (omega arith, l.invariant.1, sym (turn_at c.before true c.if-not-within.false) ∙ l.invariant.2)
+    (omega arith, l.invariant.1, sym (value_turn _ _ _ _ _ _ _ _ true (omega arith) c.variable_start.ensures.0 c.type_at-t.ensures (back (omega arith) ∙ c.var_at.ensures.0) c.within.ensures c.if-not-within.false) ∙ l.invariant.2)
 
 pub returns : goal.returns
 returns c =

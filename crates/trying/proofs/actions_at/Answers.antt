@@ -12,7 +12,7 @@ unfolding patterns_size
 loop-j-init c = (omega arith, refl)
 
 pub overflow_add-a : goal.overflow_add-a
-overflow_add-a c = let f = c.pre.0 in omega (arith, f.0, f.1)
+overflow_add-a c = let f = c.requires.ins_bound in omega (arith, f.0, f.1)
 
 -- the pattern of this turn
 pub overflow_add-at : goal.overflow_add-at
@@ -21,7 +21,7 @@ overflow_add-at c =
     let t = c in
     let l = t in
     let s = here_stands _ _ _ lies l.loop-j.j l.loop-j.at l.loop-j.invariant.1 t.loop-j-test.true in
-    omega (arith, s.inside, c.pattern_size-size.ensures, size_small c.byte_at.result, c.well-formed.0.0)
+    omega (arith, s.inside, c.pattern_size-size.ensures, size_small c.byte_at.result, c.well_formed.0.0)
 
 pub loop-j-preserved : goal.loop-j-preserved
 loop-j-preserved c =
@@ -33,12 +33,12 @@ loop-j-preserved c =
 pub skip-requires : goal.skip-requires
 skip-requires c =
     let lies : let s = c in Laid s.args.a s.args.b.now s.requires.parted.parts = let s = c in laid s.args.a s.args.b.now s.requires.parted.parts s.requires.parted.whole in
-    let at_guard : c.loop-j.at ≡ c.pre.1.parts.guard = let l = c in here_guard _ _ _ lies l.loop-j.j l.loop-j.at l.loop-j.invariant.1 c.loop-j-test.false in
+    let at_guard : c.loop-j.at ≡ c.requires.parted.parts.guard = let l = c in here_guard _ _ _ lies l.loop-j.j l.loop-j.at l.loop-j.invariant.1 c.loop-j-test.false in
     guard_there _ _ _ lies _ at_guard
 
 pub returns : goal.returns
 unfolding outs_at
 returns c =
     let lies : let s = c in Laid s.args.a s.args.b.now s.requires.parted.parts = let s = c in laid s.args.a s.args.b.now s.requires.parted.parts s.requires.parted.whole in
-    let at_guard : c.loop-j.at ≡ c.pre.1.parts.guard = let l = c.before.before in here_guard _ _ _ lies l.loop-j.j l.loop-j.at l.loop-j.invariant.1 c.loop-j-test.false in
-    c.skip.ensures ∙ guard_end _ _ _ lies _ at_guard ∙ sym (ap outs_at c.requires.1.whole)
+    let at_guard : c.loop-j.at ≡ c.requires.parted.parts.guard = let l = c.before.before in here_guard _ _ _ lies l.loop-j.j l.loop-j.at l.loop-j.invariant.1 c.loop-j-test.false in
+    c.skip.ensures ∙ guard_end _ _ _ lies _ at_guard ∙ sym (ap outs_at c.requires.parted.whole)

@@ -11,16 +11,6 @@ use Rattle.trying.proofs.judge.Goals as goal
 pub skip-outs-requires : goal.skip-outs-requires
 skip-outs-requires c = let h = c.requires in guard_there _ _ _ h.work.laid _ h.guard
 
--- what is known where they are open
-open_at : (c : goal.In-Open)
-    → let h = c.before.before.before.before.before.before.before in
-    let a = h.args.a in
-    Opened (env_in h.args.vals.now h.args.types.now) h.args.full.now (rule_read (read_rule a.ins a.outs a.vars h.args.b.now)) h.requires.work.parts.sets c.in-Open.sets
-open_at c =
-    let d = c in
-    let h = d.requires in
-    opened _ _ _ _ h.work _ _ _ h.guard _ _ (outs_at_lem d.before) (sym c.in-Open.is ∙ d.outs_open.ensures)
-
 pub outs_open-requires : goal.outs_open-requires
 outs_open-requires c =
     let outs_at_lem : c.skip-outs.result ≡ c.requires.work.parts.outs = let h = c.requires in c.skip-outs.ensures ∙ guard_end _ _ _ h.work.laid _ h.guard in
@@ -41,28 +31,27 @@ value-requires c =
 
 pub returns-then-not-is_true : goal.returns-then-not-is_true
 returns-then-not-is_true c =
+    let outs_at_lem : c.skip-outs.result ≡ c.requires.work.parts.outs = let h = c.requires in c.skip-outs.ensures ∙ guard_end _ _ _ h.work.laid _ h.guard in
     let d = c in
-    let o = d.before in
-    let h = o.requires in
-    judge_false _ _ _ _ h.work _ _ _ h.guard _ (open_at o) _ _ (sym c.in-Value.is ∙ d.value.ensures) (ap is_true (sym (back {z = c.in-Value.value} (omega arith))) ∙ sym c.is_true.ensures ∙ c.if-not-is_true.true)
+    let h = c.requires in
+    judge_false _ _ _ _ h.work _ _ _ h.guard _ (opened _ _ _ _ c.requires.work _ _ _ c.requires.guard _ _ outs_at_lem (sym c.in-Open.is ∙ c.outs_open.ensures)) _ _ (sym c.in-Value.is ∙ d.value.ensures) (ap is_true (sym (back {z = c.in-Value.value} (omega arith))) ∙ sym c.is_true.ensures ∙ c.if-not-is_true.true)
 
 pub chosen-requires : goal.chosen-requires
 chosen-requires c =
     let outs_at_lem : c.skip-outs.result ≡ c.requires.work.parts.outs = let h = c.requires in c.skip-outs.ensures ∙ guard_end _ _ _ h.work.laid _ h.guard in
-    let o = c.before.before.before.before.before.before in
-    let h = o.requires in
-    record { work = h.work; outs = outs_at_lem sets = (open_at o).sets }
+    let h = c.requires in
+    record { work = h.work; outs = outs_at_lem; sets = (opened _ _ _ _ c.requires.work _ _ _ c.requires.guard _ _ outs_at_lem (sym c.in-Open.is ∙ c.outs_open.ensures)).sets }
 
 pub returns-in-Fault : goal.returns-in-Fault
 returns-in-Fault c =
+    let outs_at_lem : c.skip-outs.result ≡ c.requires.work.parts.outs = let h = c.requires in c.skip-outs.ensures ∙ guard_end _ _ _ h.work.laid _ h.guard in
     let d = c in
-    let o = d.before in
-    let h = o.requires in
-    judge_fault _ _ _ _ h.work _ _ _ h.guard _ (open_at o) _ (sym c.in-Fault.is ∙ d.value.ensures)
+    let h = c.requires in
+    judge_fault _ _ _ _ h.work _ _ _ h.guard _ (opened _ _ _ _ c.requires.work _ _ _ c.requires.guard _ _ outs_at_lem (sym c.in-Open.is ∙ c.outs_open.ensures)) _ (sym c.in-Fault.is ∙ d.value.ensures)
 
 pub returns-else-not-is_true : goal.returns-else-not-is_true
 returns-else-not-is_true c =
+    let outs_at_lem : c.skip-outs.result ≡ c.requires.work.parts.outs = let h = c.requires in c.skip-outs.ensures ∙ guard_end _ _ _ h.work.laid _ h.guard in
     let d = c in
-    let o = d.before in
-    let h = o.requires in
-    judge_true _ _ _ _ h.work _ _ _ h.guard _ (open_at o) _ _ (sym c.in-Value.is ∙ d.value.ensures) (ap is_true (sym (back {z = c.in-Value.value} (omega (arith, c.in-Value)))) ∙ sym c.is_true.ensures ∙ c.if-not-is_true.false) c.chosen.ensures
+    let h = c.requires in
+    judge_true _ _ _ _ h.work _ _ _ h.guard _ (opened _ _ _ _ c.requires.work _ _ _ c.requires.guard _ _ outs_at_lem (sym c.in-Open.is ∙ c.outs_open.ensures)) _ _ (sym c.in-Value.is ∙ d.value.ensures) (ap is_true (sym (back {z = c.in-Value.value} (omega arith))) ∙ sym c.is_true.ensures ∙ c.if-not-is_true.false) c.chosen.ensures

@@ -24,12 +24,12 @@ loop-j-init c =
 
 pub skip_pattern-at-requires : goal.skip_pattern-at-requires
 skip_pattern-at-requires c =
-    let stands : is_read (read_pattern (pattern_codes false) (drop c.loop-j.at c.args.b.now)) ≡ true = let a = c.args in let i = c.loop-j in first_read (read_pattern (pattern_codes false)) a.b.now (a.n - i.j) i.at (omega arith) i.invariant.1.0 in
+    let stands : is_read (read_pattern (pattern_codes false) (drop c.loop-j.at c.args.b.now)) ≡ true = unfold patterns_from in let a = c.args in let i = c.loop-j in first_read (read_pattern (pattern_codes false)) a.b.now (a.n - i.j) i.at (omega arith) i.invariant.1.0 in
     pattern_there (pattern_codes false) c.args.b.now c.loop-j.at stands
 
 pub loop-j-preserved : goal.loop-j-preserved
 loop-j-preserved c =
-    let stands : is_read (read_pattern (pattern_codes false) (drop c.loop-j.at c.args.b.now)) ≡ true = let a = c.args in let i = c.loop-j in first_read (read_pattern (pattern_codes false)) a.b.now (a.n - i.j) i.at (omega arith) i.invariant.1.0 in
+    let stands : is_read (read_pattern (pattern_codes false) (drop c.loop-j.at c.args.b.now)) ≡ true = unfold patterns_from in let a = c.args in let i = c.loop-j in first_read (read_pattern (pattern_codes false)) a.b.now (a.n - i.j) i.at (omega arith) i.invariant.1.0 in
     let l = c in
     let a = c.args in
     let i = l.loop-j in

@@ -43,25 +43,25 @@ read_back-requires-in-17 c = let d = c in record { le_p = omega arith; p_bound =
 
 pub overflow_cast-n : goal.overflow_cast-n
 overflow_cast-n c =
-    let n-is : c.pattern-n.result ≡ mod_z c.args.b 32 = rw (to_z-of_z c.ranges.b) at c.pattern-n.ensures in
+    let n-is : c.pattern-n.result ≡ mod_z c.args.b 32 = unfold pattern in rw (to_z-of_z c.ranges.b) at c.pattern-n.ensures in
     let n-lt : c.pattern-n.result < 32 = rw n-is (mod_z_lt c.args.b 32 (omega arith)) in
     record { sfits = omega (arith, n-lt) }
 
 pub overflow_shl-n : goal.overflow_shl-n
 overflow_shl-n c =
-    let n-is : c.pattern-n.result ≡ mod_z c.args.b 32 = rw (to_z-of_z c.ranges.b) at c.pattern-n.ensures in
+    let n-is : c.pattern-n.result ≡ mod_z c.args.b 32 = unfold pattern in rw (to_z-of_z c.ranges.b) at c.pattern-n.ensures in
     let n-lt : c.pattern-n.result < 32 = rw n-is (mod_z_lt c.args.b 32 (omega arith)) in
     omega (arith, n-lt)
 
 pub overflow_mul-a : goal.overflow_mul-a
 overflow_mul-a c =
-    let n-is : c.pattern-n.result ≡ mod_z c.args.b 32 = rw (to_z-of_z c.ranges.b) at c.pattern-n.ensures in
+    let n-is : c.pattern-n.result ≡ mod_z c.args.b 32 = unfold pattern in rw (to_z-of_z c.ranges.b) at c.pattern-n.ensures in
     let n-lt : c.pattern-n.result < 32 = rw n-is (mod_z_lt c.args.b 32 (omega arith)) in
     let d = c in let a = d.args.a in rw (shift_need a d.pattern-n.result (omega arith) n-lt) (shift_fits a d.pattern-n.result (omega arith) n-lt)
 
 pub overflow_shr-x : goal.overflow_shr-x
 overflow_shr-x c =
-    let n-is : c.pattern-n.result ≡ mod_z c.args.b 32 = rw (to_z-of_z c.ranges.b) at c.pattern-n.ensures in
+    let n-is : c.pattern-n.result ≡ mod_z c.args.b 32 = unfold pattern in rw (to_z-of_z c.ranges.b) at c.pattern-n.ensures in
     let n-lt : c.pattern-n.result < 32 = rw n-is (mod_z_lt c.args.b 32 (omega arith)) in
     omega (arith, n-lt)
 
@@ -95,7 +95,7 @@ returns-in-17 c =
 pub returns-in-18 : goal.returns-in-18
 unfolding bitwise
 returns-in-18 c =
-    let n-is : c.pattern-n.result ≡ mod_z c.args.b 32 = rw (to_z-of_z c.ranges.b) at c.pattern-n.ensures in
+    let n-is : c.pattern-n.result ≡ mod_z c.args.b 32 = unfold pattern in rw (to_z-of_z c.ranges.b) at c.pattern-n.ensures in
     let n-lt : c.pattern-n.result < 32 = rw n-is (mod_z_lt c.args.b 32 (omega arith)) in
     let d = c in
     let a = d.args.a in
@@ -106,7 +106,7 @@ pub returns-in_default : goal.returns-in_default
 unfolding bitwise
 returns-in_default c =
     let x-is : c.pattern-x.result ≡ pattern c.args.t c.args.a = rw (to_z-of_z c.ranges.a) at c.pattern-x.ensures in
-    let n-is : c.pattern-n.result ≡ mod_z c.args.b 32 = rw (to_z-of_z c.ranges.b) at c.pattern-n.ensures in
+    let n-is : c.pattern-n.result ≡ mod_z c.args.b 32 = unfold pattern in rw (to_z-of_z c.ranges.b) at c.pattern-n.ensures in
     let d = c in
     let o = d.args.o in
     let r = c.in_default.in_default-own.rest in

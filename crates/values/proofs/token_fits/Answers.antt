@@ -52,7 +52,10 @@ returns-then-k c =
     zero_bits _ (record { sfits = c.struct_told-1.given.1.0.1 }) ∙ sym (mark _ _ (sym e.tag_fits.ensures ∙ e.if-not-tag_fits.false) c.if-k-gt3.false c.if-k.true)
 
 pub within-requires : goal.within-requires
-within-requires c = rw c.carried-u.ensures (rw (carried_p c.args.t) (omega arith, omega arith))
+within-requires c = record {
+  le_p = rw (c.carried-u.ensures, carried_p c.args.t) (omega arith);
+  p_bound = rw (c.carried-u.ensures, carried_p c.args.t) (omega arith);
+}
 
 pub returns : goal.returns
 returns c =
