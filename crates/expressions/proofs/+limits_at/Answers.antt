@@ -1,4 +1,4 @@
-use Rattle.std.proofs.Common.{◌≡◌, true, ◌+◌, ◌-◌, ◌≤◌, length, get_or, drop, refl, sym, ◌∙◌, arith}
+use Rattle.std.proofs.Common.{◌≡◌, true, ◌-◌, get_or, drop, refl, sym, ◌∙◌, arith}
 use Rattle.model.specs.Expressions.{head_fits, expression}
 use Rattle.expressions.proofs.Reading.{head_pos}
 use Rattle.expressions.proofs.Heads.{head_at, fits_whole}

@@ -1,4 +1,4 @@
-use Rattle.std.proofs.Common.{◌≡◌, ℕ, ◌+◌, ◌-◌, ◌≤◌, length, drop}
+use Rattle.std.proofs.Common.{◌≡◌, ◌-◌, ◌≤◌, length, drop}
 use Rattle.model.specs.Expressions.{expression}
 use Rattle.expressions.specs.Reading.{limits_at}
 use Rattle.expressions.proofs.Depths.{limits_from}
