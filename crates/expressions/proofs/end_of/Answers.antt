@@ -13,40 +13,37 @@ loop-pending-init c = (omega arith, (omega arith, ends_whole c.args.s.now c.args
 
 pub returns-then-not-head_fits : goal.returns-then-not-head_fits
 returns-then-not-head_fits c =
-    let l = c in
-    let i = l.loop-pending in
-    sym (halt c.args.s.now i.pending i.at l.loop-pending-test.true (sym c.head_fits.ensures ∙ c.if-not-head_fits.true)) ∙ i.invariant.1.1
+    let i = c.loop-pending in
+    sym (halt c.args.s.now i.pending i.at c.loop-pending-test.true (sym c.head_fits.ensures ∙ c.if-not-head_fits.true)) ∙ i.invariant.1.1
 
 pub overflow_add-pending : goal.overflow_add-pending
 overflow_add-pending c =
     let fitting : head_fits (drop c.loop-pending.at c.args.s.now) ≡ true = sym c.head_fits.ensures ∙ c.if-not-head_fits.false in
-    let advance : let e = c in e.loop-pending.at + c.head_size-head.result ≤ length c.args.s.now = let e = c in let i = e.loop-pending in rw c.head_size-head.ensures.0 (fits_whole c.args.s.now i.at _ c.byte_at-c.ensures fitting) in
+    let advance : c.loop-pending.at + c.head_size-head.result ≤ length c.args.s.now = rw c.head_size-head.ensures.0 (fits_whole c.args.s.now c.loop-pending.at _ c.byte_at-c.ensures fitting) in
     let moves : 1 ≤ c.head_size-head.result = rw c.head_size-head.ensures.0 (head_pos c.byte_at-c.result) in
-    record { fits = omega (arith, advance, moves, c.well_formed.0.0) }
+    record { fits = omega (arith, advance, moves) }
 
 pub overflow_add-at : goal.overflow_add-at
 overflow_add-at c =
     let fitting : head_fits (drop c.loop-pending.at c.args.s.now) ≡ true = sym c.head_fits.ensures ∙ c.if-not-head_fits.false in
-    let advance : let e = c in e.loop-pending.at + c.head_size-head.result ≤ length c.args.s.now = let e = c in let i = e.loop-pending in rw c.head_size-head.ensures.0 (fits_whole c.args.s.now i.at _ c.byte_at-c.ensures fitting) in
-    record { fits = omega (arith, advance, c.well_formed.0.0) }
+    let advance : c.loop-pending.at + c.head_size-head.result ≤ length c.args.s.now = rw c.head_size-head.ensures.0 (fits_whole c.args.s.now c.loop-pending.at _ c.byte_at-c.ensures fitting) in
+    record { fits = omega (arith, advance) }
 
 pub loop-pending-smaller : goal.loop-pending-smaller
 loop-pending-smaller c =
     let fitting : head_fits (drop c.loop-pending.at c.args.s.now) ≡ true = sym c.head_fits.ensures ∙ c.if-not-head_fits.false in
-    let advance : let e = c in e.loop-pending.at + c.head_size-head.result ≤ length c.args.s.now = let e = c in let i = e.loop-pending in rw c.head_size-head.ensures.0 (fits_whole c.args.s.now i.at _ c.byte_at-c.ensures fitting) in
+    let advance : c.loop-pending.at + c.head_size-head.result ≤ length c.args.s.now = rw c.head_size-head.ensures.0 (fits_whole c.args.s.now c.loop-pending.at _ c.byte_at-c.ensures fitting) in
     let moves : 1 ≤ c.head_size-head.result = rw c.head_size-head.ensures.0 (head_pos c.byte_at-c.result) in
     omega (arith, advance, moves)
 
 pub loop-pending-preserved : goal.loop-pending-preserved
 loop-pending-preserved c =
     let fitting : head_fits (drop c.loop-pending.at c.args.s.now) ≡ true = sym c.head_fits.ensures ∙ c.if-not-head_fits.false in
-    let advance : let e = c in e.loop-pending.at + c.head_size-head.result ≤ length c.args.s.now = let e = c in let i = e.loop-pending in rw c.head_size-head.ensures.0 (fits_whole c.args.s.now i.at _ c.byte_at-c.ensures fitting) in
+    let advance : c.loop-pending.at + c.head_size-head.result ≤ length c.args.s.now = rw c.head_size-head.ensures.0 (fits_whole c.args.s.now c.loop-pending.at _ c.byte_at-c.ensures fitting) in
     let moves : 1 ≤ c.head_size-head.result = rw c.head_size-head.ensures.0 (head_pos c.byte_at-c.result) in
-    let e = c.before.before.before in
-    let l = e in
-    let i = l.loop-pending in
+    let i = c.loop-pending in
     let b = c.byte_at-c in
-    let w = turn c.args.s.now i.pending i.at b.result l.loop-pending-test.true fitting (head_at i.at c.args.s.now ∙ sym b.ensures) in
+    let w = turn c.args.s.now i.pending i.at b.result c.loop-pending-test.true fitting (head_at i.at c.args.s.now ∙ sym b.ensures) in
     (advance, (omega (arith, moves), rw (c.operands.ensures.0, c.head_size-head.ensures.0) (sym w ∙ i.invariant.1.1)))
 
 pub returns : goal.returns

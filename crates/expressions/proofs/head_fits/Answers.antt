@@ -8,35 +8,29 @@ use Rattle.expressions.proofs.Heads.{fits_none, fits_unknown, fits_cut, fits_kin
 use Rattle.expressions.proofs.head_fits.Goals as goal
 
 pub returns-then-left-eq0 : goal.returns-then-left-eq0
-returns-then-left-eq0 c = let s = c in sym (fits_none s.args.s.now s.args.at _ refl (omega arith))
+returns-then-left-eq0 c = sym (fits_none c.args.s.now c.args.at _ refl (omega arith))
 
 pub returns-then-not-known_code : goal.returns-then-not-known_code
 returns-then-not-known_code c =
-    let b = c in
-    let a = b.args in
-    sym (fits_unknown a.s.now a.at _ b.byte_at-c.ensures (sym c.known_code.ensures ∙ c.if-not-known_code.true) (omega arith))
+    let a = c.args in
+    sym (fits_unknown a.s.now a.at _ c.byte_at-c.ensures (sym c.known_code.ensures ∙ c.if-not-known_code.true) (omega arith))
 
 pub returns-then-left-head_size : goal.returns-then-left-head_size
 returns-then-left-head_size c =
     let known : known_code c.byte_at-c.result ≡ true = sym c.known_code.ensures ∙ c.if-not-known_code.false in
-    let b = c in
-    let a = b.args in
-    sym (fits_cut a.s.now a.at _ b.byte_at-c.ensures known (omega arith) (rw c.head_size.ensures.0 at c.if-left-head_size.true))
+    let a = c.args in
+    sym (fits_cut a.s.now a.at _ c.byte_at-c.ensures known (omega arith) (rw c.head_size.ensures.0 at c.if-left-head_size.true))
 
 pub returns-then-c : goal.returns-then-c
 returns-then-c c =
     let known : known_code c.byte_at-c.result ≡ true = sym c.known_code.ensures ∙ c.if-not-known_code.false in
-    let roomy : let b = c in head_size b.byte_at-c.result ≤ length b.args.s.now - b.args.at = rw c.head_size.ensures.0 at c.if-left-head_size.false in
-    let w = c.before.before in
-    let b = w in
-    let a = b.args in
-    rw c.byte_at.ensures (sym (fits_kind a.s.now a.at _ b.byte_at-c.ensures c.if-c.true known (omega arith) roomy))
+    let roomy : head_size c.byte_at-c.result ≤ length c.args.s.now - c.args.at = rw c.head_size.ensures.0 at c.if-left-head_size.false in
+    let a = c.args in
+    rw c.byte_at.ensures (sym (fits_kind a.s.now a.at _ c.byte_at-c.ensures c.if-c.true known (omega arith) roomy))
 
 pub returns : goal.returns
 returns c =
     let known : known_code c.byte_at-c.result ≡ true = sym c.known_code.ensures ∙ c.if-not-known_code.false in
-    let roomy : let b = c in head_size b.byte_at-c.result ≤ length b.args.s.now - b.args.at = rw c.head_size.ensures.0 at c.if-left-head_size.false in
-    let w = c.before in
-    let b = w in
-    let a = b.args in
-    sym (fits_plain a.s.now a.at _ b.byte_at-c.ensures c.if-c.false known (omega arith) roomy)
+    let roomy : head_size c.byte_at-c.result ≤ length c.args.s.now - c.args.at = rw c.head_size.ensures.0 at c.if-left-head_size.false in
+    let a = c.args in
+    sym (fits_plain a.s.now a.at _ c.byte_at-c.ensures c.if-c.false known (omega arith) roomy)

@@ -18,20 +18,20 @@ loop-left-init c =
 pub overflow_add-left : goal.overflow_add-left
 overflow_add-left c =
     let fitting : head_fits (drop c.loop-left.at c.args.s.now) ≡ true = let i = c.loop-left in goes_on c.args.s.now i.left i.at _ c.loop-left-test.true i.invariant.1 in
-    let advance : let l = c in l.loop-left.at + c.head_size-head.result ≤ length c.args.s.now = let l = c.before.before.before in rw c.head_size-head.ensures.0 (fits_whole c.args.s.now l.loop-left.at _ c.byte_at-c.ensures fitting) in
+    let advance : c.loop-left.at + c.head_size-head.result ≤ length c.args.s.now = rw c.head_size-head.ensures.0 (fits_whole c.args.s.now c.loop-left.at _ c.byte_at-c.ensures fitting) in
     let moves : 1 ≤ c.head_size-head.result = rw c.head_size-head.ensures.0 (head_pos c.byte_at-c.result) in
-    record { fits = omega (arith, advance, moves, c.well_formed.0.0) }
+    record { fits = omega (arith, advance, moves) }
 
 pub overflow_add-at : goal.overflow_add-at
 overflow_add-at c =
     let fitting : head_fits (drop c.loop-left.at c.args.s.now) ≡ true = let i = c.loop-left in goes_on c.args.s.now i.left i.at _ c.loop-left-test.true i.invariant.1 in
-    let advance : let l = c in l.loop-left.at + c.head_size-head.result ≤ length c.args.s.now = let l = c.before.before.before in rw c.head_size-head.ensures.0 (fits_whole c.args.s.now l.loop-left.at _ c.byte_at-c.ensures fitting) in
-    record { fits = omega (arith, advance, c.well_formed.0.0) }
+    let advance : c.loop-left.at + c.head_size-head.result ≤ length c.args.s.now = rw c.head_size-head.ensures.0 (fits_whole c.args.s.now c.loop-left.at _ c.byte_at-c.ensures fitting) in
+    record { fits = omega (arith, advance) }
 
 pub loop-left-smaller : goal.loop-left-smaller
 loop-left-smaller c =
     let fitting : head_fits (drop c.loop-left.at c.args.s.now) ≡ true = let i = c.loop-left in goes_on c.args.s.now i.left i.at _ c.loop-left-test.true i.invariant.1 in
-    let advance : let l = c in l.loop-left.at + c.head_size-head.result ≤ length c.args.s.now = let l = c.before.before.before in rw c.head_size-head.ensures.0 (fits_whole c.args.s.now l.loop-left.at _ c.byte_at-c.ensures fitting) in
+    let advance : c.loop-left.at + c.head_size-head.result ≤ length c.args.s.now = rw c.head_size-head.ensures.0 (fits_whole c.args.s.now c.loop-left.at _ c.byte_at-c.ensures fitting) in
     let moves : 1 ≤ c.head_size-head.result = rw c.head_size-head.ensures.0 (head_pos c.byte_at-c.result) in
     omega (arith, advance, moves)
 
@@ -39,10 +39,9 @@ pub loop-left-preserved : goal.loop-left-preserved
 loop-left-preserved c =
     let fitting : head_fits (drop c.loop-left.at c.args.s.now) ≡ true = let i = c.loop-left in goes_on c.args.s.now i.left i.at _ c.loop-left-test.true i.invariant.1 in
     let moves : 1 ≤ c.head_size-head.result = rw c.head_size-head.ensures.0 (head_pos c.byte_at-c.result) in
-    let l = c in
-    let i = l.loop-left in
+    let i = c.loop-left in
     let b = c.byte_at-c in
-    let w = turn c.args.s.now i.left i.at b.result l.loop-left-test.true fitting (head_at i.at c.args.s.now ∙ sym b.ensures) in
+    let w = turn c.args.s.now i.left i.at b.result c.loop-left-test.true fitting (head_at i.at c.args.s.now ∙ sym b.ensures) in
     (omega (arith, moves), rw (c.operands.ensures.0, c.head_size-head.ensures.0) (sym w ∙ i.invariant.1))
 
 pub returns : goal.returns

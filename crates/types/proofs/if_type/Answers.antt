@@ -4,5 +4,4 @@ use Rattle.types.proofs.if_type.Goals as goal
 
 pub returns : goal.returns
 returns c =
-    let s = c in
-    c.judge.ensures ∙ judged_by _ s.requires refl (and_same c.is_bool.ensures c.same_type.ensures)
+    c.judge.ensures ∙ judged_by _ c.requires refl (and_same c.is_bool.ensures c.same_type.ensures)

@@ -3,8 +3,8 @@ use Rattle.model.specs.Values.{no_type}
 use Rattle.types.proofs.named.Goals as goal
 
 pub returns-then-i-lt4 : goal.returns-then-i-lt4
-returns-then-i-lt4 c = let a = c.args in rw (c.type_at.ensures, c.wide.ensures.0, lt-ltb a.i 4 c.if-i-lt4.true)
+returns-then-i-lt4 c = rw (c.type_at.ensures, c.wide.ensures.0, lt-ltb c.args.i 4 c.if-i-lt4.true)
 
 pub returns : goal.returns
 unfolding no_type
-returns c = let a = c.args in rw (le-ltb a.i 4 c.if-i-lt4.false)
+returns c = rw (le-ltb c.args.i 4 c.if-i-lt4.false)
