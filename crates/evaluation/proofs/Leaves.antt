@@ -14,7 +14,6 @@ use Rattle.model.specs.declared.Ty.{Ty}
 use Rattle.model.specs.declared.Outcome.TheVariants.{Value}
 use Rattle.model.specs.Bytes.{value_at}
 use Rattle.model.specs.Expressions.{head_size, type_at, build, expression, value_of}
-use Rattle.expressions.specs.declared.Form.TheVariants as form
 use Rattle.expressions.proofs.Leaves.{Leaf, leaf_there, leaf_read, leaf_two}
 use Rattle.expressions.proofs.Shapes.{build-literal, build-matched, build-variable}
 use Rattle.types.proofs.Judging.{type_drop}
