@@ -20,8 +20,14 @@ keep_new-requires c =
     let x = start.requires.works in
     let e = took.take_read.ensures in
     let f = sent.put_sent-next.ensures.1 in
-    rw sent.put_sent-next.ensures.0
-    (f.stands, (x.read.known, (vars_now _ _ _ _ _ _ h _ _ _ _ _ _ x _ e _ f, (x.sets, (x.env, keeps _ _ _ _ _ _ h _ _ _ _ _ _ x _ e _ f)))))
+    record {
+      standing = f.stands;
+      k_lt_boxes = x.read.known;
+      vars_bound = vars_now _ _ _ _ _ _ h _ _ _ _ _ _ x _ e _ f;
+      ready = rw sent.put_sent-next.ensures.0 x.sets;
+      env_fits = x.env;
+      keeps = rw sent.put_sent-next.ensures.0 (keeps _ _ _ _ _ _ h _ _ _ _ _ _ x _ e _ f);
+    }
 
 pub returns : goal.returns
 unfolding sets_from

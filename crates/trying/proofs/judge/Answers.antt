@@ -38,9 +38,11 @@ returns-then-not-is_true c =
 
 pub chosen-requires : goal.chosen-requires
 chosen-requires c =
-    let outs_at_lem : c.skip-outs.result ≡ c.requires.work.parts.outs = let h = c.requires in c.skip-outs.ensures ∙ guard_end _ _ _ h.work.laid _ h.guard in
     let h = c.requires in
-    record { work = h.work; outs = outs_at_lem; sets = (opened _ _ _ _ c.requires.work _ _ _ c.requires.guard _ _ outs_at_lem (sym c.in-Open.is ∙ c.outs_open.ensures)).sets }
+    let a = c.args in
+    let outs_at_lem : c.skip-outs.result ≡ h.work.parts.outs = c.skip-outs.ensures ∙ guard_end _ _ _ h.work.laid _ h.guard in
+    let o : Opened (env_in a.vals.now a.types.now) a.full.now (rule_read (read_rule a.a.ins a.a.outs a.a.vars a.b.now)) h.work.parts.sets c.in-Open.sets = opened _ _ _ _ h.work _ _ _ h.guard _ _ outs_at_lem (sym c.in-Open.is ∙ c.outs_open.ensures) in
+    record { work = h.work; outs = outs_at_lem; sets = o.sets }
 
 pub returns-in-Fault : goal.returns-in-Fault
 returns-in-Fault c =
