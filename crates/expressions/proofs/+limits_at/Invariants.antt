@@ -10,7 +10,7 @@ decreases-limits_at l = l.depth
 abbrev pub invariant-loop-left : goal.invariant-loop-left
 invariant-loop-left l = record {
   inside : l.next ≤ length l.s;
-  same : limits_from l.left (l.depth - 1) l.next l.s ≡ limits_at l.at l.depth (expression (drop l.at l.s))
+  same : limits_from l.left (l.depth - 1) l.next l.s ≡ limits_at l.at l.depth (expression (drop l.at l.s));
 }
 
 abbrev pub decreases-loop-left : goal.decreases-loop-left

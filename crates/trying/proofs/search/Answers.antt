@@ -41,20 +41,20 @@ port_ready-requires c =
 pub overflow_add-r : goal.overflow_add-r
 overflow_add-r c =
     let body_is : let a = c.args in c.rule_body-body.result.now ≡ body_at a.net.now (rule_at (index_in a.table.now a.c) a.k.0 c.rules.r) = unfold body_at in c.rule_body-body.ensures.bytes in
-    let outer : let a = c.args in let f = trial a.net.now a.table.now a.c a.k.0 a.a a.ins.now a.vars.now a.heads.now a.full.now a.vals.now in (c.loop-j.r < a.count) × (from f a.count c.loop-j.r ≡ from f a.count 0) × (f c.loop-j.r ≡ try_on (types_in a.ins.now a.a.ins) (types_in a.vars.now a.a.vars) a.heads.now a.full.now a.vals.now (rule_read (read_rule a.a.ins a.a.outs a.a.vars c.rule_body-body.result.now)) c.loop-j.r) = let i = c.loop-j.invariant in let a = c.args in let f = trial a.net.now a.table.now a.c a.k.0 a.a a.ins.now a.vars.now a.heads.now a.full.now a.vals.now in let e : body_at a.net.now (rule_at (index_in a.table.now a.c) a.k.0 c.loop-j.r) ≡ c.rule_body-body.result.now = ap (λ (x : ℕ). body_at a.net.now (rule_at (index_in a.table.now a.c) a.k.0 x)) i.0 ∙ sym body_is in ( omega (arith, c.if-count-r.false, i.0), ap (from f a.count) i.0 ∙ c.rules.invariant.1, ap (λ (b : List ℕ). try_on (types_in a.ins.now a.a.ins) (types_in a.vars.now a.a.vars) a.heads.now a.full.now a.vals.now (rule_read (read_rule a.a.ins a.a.outs a.a.vars b)) c.loop-j.r) e, ) in
+    let outer : let a = c.args in let f = trial a.net.now a.table.now a.c a.k.0 a.a a.ins.now a.vars.now a.heads.now a.full.now a.vals.now in (c.loop-j.r < a.count) × (from f a.count c.loop-j.r ≡ from f a.count 0) × (f c.loop-j.r ≡ try_on (types_in a.ins.now a.a.ins) (types_in a.vars.now a.a.vars) a.heads.now a.full.now a.vals.now (rule_read (read_rule a.a.ins a.a.outs a.a.vars c.rule_body-body.result.now)) c.loop-j.r) = let i = c.loop-j.invariant in let a = c.args in let f = trial a.net.now a.table.now a.c a.k.0 a.a a.ins.now a.vars.now a.heads.now a.full.now a.vals.now in let e : body_at a.net.now (rule_at (index_in a.table.now a.c) a.k.0 c.loop-j.r) ≡ c.rule_body-body.result.now = ap (λ (x : ℕ). body_at a.net.now (rule_at (index_in a.table.now a.c) a.k.0 x)) i.0 ∙ sym body_is in (omega (arith, c.if-count-r.false, i.0), ap (from f a.count) i.0 ∙ c.rules.invariant.1, ap (λ (b : List ℕ). try_on (types_in a.ins.now a.a.ins) (types_in a.vars.now a.a.vars) a.heads.now a.full.now a.vals.now (rule_read (read_rule a.a.ins a.a.outs a.a.vars b)) c.loop-j.r) e) in
     let l = c in omega (arith, outer.0, l.requires.rules.few)
 
 pub rules-smaller-then-not-port_ready : goal.rules-smaller-then-not-port_ready
 rules-smaller-then-not-port_ready c =
     let body_is : let a = c.args in c.rule_body-body.result.now ≡ body_at a.net.now (rule_at (index_in a.table.now a.c) a.k.0 c.rules.r) = unfold body_at in c.rule_body-body.ensures.bytes in
-    let outer : let a = c.args in let f = trial a.net.now a.table.now a.c a.k.0 a.a a.ins.now a.vars.now a.heads.now a.full.now a.vals.now in (c.loop-j.r < a.count) × (from f a.count c.loop-j.r ≡ from f a.count 0) × (f c.loop-j.r ≡ try_on (types_in a.ins.now a.a.ins) (types_in a.vars.now a.a.vars) a.heads.now a.full.now a.vals.now (rule_read (read_rule a.a.ins a.a.outs a.a.vars c.rule_body-body.result.now)) c.loop-j.r) = let i = c.loop-j.invariant in let a = c.args in let f = trial a.net.now a.table.now a.c a.k.0 a.a a.ins.now a.vars.now a.heads.now a.full.now a.vals.now in let e : body_at a.net.now (rule_at (index_in a.table.now a.c) a.k.0 c.loop-j.r) ≡ c.rule_body-body.result.now = ap (λ (x : ℕ). body_at a.net.now (rule_at (index_in a.table.now a.c) a.k.0 x)) i.0 ∙ sym body_is in ( omega (arith, c.if-count-r.false, i.0), ap (from f a.count) i.0 ∙ c.rules.invariant.1, ap (λ (b : List ℕ). try_on (types_in a.ins.now a.a.ins) (types_in a.vars.now a.a.vars) a.heads.now a.full.now a.vals.now (rule_read (read_rule a.a.ins a.a.outs a.a.vars b)) c.loop-j.r) e, ) in
+    let outer : let a = c.args in let f = trial a.net.now a.table.now a.c a.k.0 a.a a.ins.now a.vars.now a.heads.now a.full.now a.vals.now in (c.loop-j.r < a.count) × (from f a.count c.loop-j.r ≡ from f a.count 0) × (f c.loop-j.r ≡ try_on (types_in a.ins.now a.a.ins) (types_in a.vars.now a.a.vars) a.heads.now a.full.now a.vals.now (rule_read (read_rule a.a.ins a.a.outs a.a.vars c.rule_body-body.result.now)) c.loop-j.r) = let i = c.loop-j.invariant in let a = c.args in let f = trial a.net.now a.table.now a.c a.k.0 a.a a.ins.now a.vars.now a.heads.now a.full.now a.vals.now in let e : body_at a.net.now (rule_at (index_in a.table.now a.c) a.k.0 c.loop-j.r) ≡ c.rule_body-body.result.now = ap (λ (x : ℕ). body_at a.net.now (rule_at (index_in a.table.now a.c) a.k.0 x)) i.0 ∙ sym body_is in (omega (arith, c.if-count-r.false, i.0), ap (from f a.count) i.0 ∙ c.rules.invariant.1, ap (λ (b : List ℕ). try_on (types_in a.ins.now a.a.ins) (types_in a.vars.now a.a.vars) a.heads.now a.full.now a.vals.now (rule_read (read_rule a.a.ins a.a.outs a.a.vars b)) c.loop-j.r) e) in
     let l = c in omega (arith, outer.0, l.loop-j.invariant.0)
 
 pub rules-preserved-then-not-port_ready : goal.rules-preserved-then-not-port_ready
 rules-preserved-then-not-port_ready c =
     let body_is : let a = c.args in c.rule_body-body.result.now ≡ body_at a.net.now (rule_at (index_in a.table.now a.c) a.k.0 c.rules.r) = unfold body_at in c.rule_body-body.ensures.bytes in
     let ruled-here : let a = c.args in Ruled a.a a.ins.now a.vars.now c.rule_body-body.result.now = let h = c.requires.rules in rw body_is (h.ruled c.rules.r c.if-count-r.false) in
-    let outer : let a = c.args in let f = trial a.net.now a.table.now a.c a.k.0 a.a a.ins.now a.vars.now a.heads.now a.full.now a.vals.now in (c.loop-j.r < a.count) × (from f a.count c.loop-j.r ≡ from f a.count 0) × (f c.loop-j.r ≡ try_on (types_in a.ins.now a.a.ins) (types_in a.vars.now a.a.vars) a.heads.now a.full.now a.vals.now (rule_read (read_rule a.a.ins a.a.outs a.a.vars c.rule_body-body.result.now)) c.loop-j.r) = let i = c.loop-j.invariant in let a = c.args in let f = trial a.net.now a.table.now a.c a.k.0 a.a a.ins.now a.vars.now a.heads.now a.full.now a.vals.now in let e : body_at a.net.now (rule_at (index_in a.table.now a.c) a.k.0 c.loop-j.r) ≡ c.rule_body-body.result.now = ap (λ (x : ℕ). body_at a.net.now (rule_at (index_in a.table.now a.c) a.k.0 x)) i.0 ∙ sym body_is in ( omega (arith, c.if-count-r.false, i.0), ap (from f a.count) i.0 ∙ c.rules.invariant.1, ap (λ (b : List ℕ). try_on (types_in a.ins.now a.a.ins) (types_in a.vars.now a.a.vars) a.heads.now a.full.now a.vals.now (rule_read (read_rule a.a.ins a.a.outs a.a.vars b)) c.loop-j.r) e, ) in
+    let outer : let a = c.args in let f = trial a.net.now a.table.now a.c a.k.0 a.a a.ins.now a.vars.now a.heads.now a.full.now a.vals.now in (c.loop-j.r < a.count) × (from f a.count c.loop-j.r ≡ from f a.count 0) × (f c.loop-j.r ≡ try_on (types_in a.ins.now a.a.ins) (types_in a.vars.now a.a.vars) a.heads.now a.full.now a.vals.now (rule_read (read_rule a.a.ins a.a.outs a.a.vars c.rule_body-body.result.now)) c.loop-j.r) = let i = c.loop-j.invariant in let a = c.args in let f = trial a.net.now a.table.now a.c a.k.0 a.a a.ins.now a.vars.now a.heads.now a.full.now a.vals.now in let e : body_at a.net.now (rule_at (index_in a.table.now a.c) a.k.0 c.loop-j.r) ≡ c.rule_body-body.result.now = ap (λ (x : ℕ). body_at a.net.now (rule_at (index_in a.table.now a.c) a.k.0 x)) i.0 ∙ sym body_is in (omega (arith, c.if-count-r.false, i.0), ap (from f a.count) i.0 ∙ c.rules.invariant.1, ap (λ (b : List ℕ). try_on (types_in a.ins.now a.a.ins) (types_in a.vars.now a.a.vars) a.heads.now a.full.now a.vals.now (rule_read (read_rule a.a.ins a.a.outs a.a.vars b)) c.loop-j.r) e) in
     let l = c in
     let o = outer in
     let q = not_ready _ _ _ _ ruled-here _ _ _ _ l.loop-j.invariant.2 c.loop-j-test.true _ l.loop-j.r c.port_ready.ensures c.if-not-port_ready.true in
@@ -92,26 +92,26 @@ settle-requires c =
 pub overflow_cast-found : goal.overflow_cast-found
 overflow_cast-found c =
     let body_is : let a = c.args in c.rule_body-body.result.now ≡ body_at a.net.now (rule_at (index_in a.table.now a.c) a.k.0 c.rules.r) = unfold body_at in c.rule_body-body.ensures.bytes in
-    let outer : let a = c.args in let f = trial a.net.now a.table.now a.c a.k.0 a.a a.ins.now a.vars.now a.heads.now a.full.now a.vals.now in (c.loop-j.r < a.count) × (from f a.count c.loop-j.r ≡ from f a.count 0) × (f c.loop-j.r ≡ try_on (types_in a.ins.now a.a.ins) (types_in a.vars.now a.a.vars) a.heads.now a.full.now a.vals.now (rule_read (read_rule a.a.ins a.a.outs a.a.vars c.rule_body-body.result.now)) c.loop-j.r) = let i = c.loop-j.invariant in let a = c.args in let f = trial a.net.now a.table.now a.c a.k.0 a.a a.ins.now a.vars.now a.heads.now a.full.now a.vals.now in let e : body_at a.net.now (rule_at (index_in a.table.now a.c) a.k.0 c.loop-j.r) ≡ c.rule_body-body.result.now = ap (λ (x : ℕ). body_at a.net.now (rule_at (index_in a.table.now a.c) a.k.0 x)) i.0 ∙ sym body_is in ( omega (arith, c.if-count-r.false, i.0), ap (from f a.count) i.0 ∙ c.rules.invariant.1, ap (λ (b : List ℕ). try_on (types_in a.ins.now a.a.ins) (types_in a.vars.now a.a.vars) a.heads.now a.full.now a.vals.now (rule_read (read_rule a.a.ins a.a.outs a.a.vars b)) c.loop-j.r) e, ) in
+    let outer : let a = c.args in let f = trial a.net.now a.table.now a.c a.k.0 a.a a.ins.now a.vars.now a.heads.now a.full.now a.vals.now in (c.loop-j.r < a.count) × (from f a.count c.loop-j.r ≡ from f a.count 0) × (f c.loop-j.r ≡ try_on (types_in a.ins.now a.a.ins) (types_in a.vars.now a.a.vars) a.heads.now a.full.now a.vals.now (rule_read (read_rule a.a.ins a.a.outs a.a.vars c.rule_body-body.result.now)) c.loop-j.r) = let i = c.loop-j.invariant in let a = c.args in let f = trial a.net.now a.table.now a.c a.k.0 a.a a.ins.now a.vars.now a.heads.now a.full.now a.vals.now in let e : body_at a.net.now (rule_at (index_in a.table.now a.c) a.k.0 c.loop-j.r) ≡ c.rule_body-body.result.now = ap (λ (x : ℕ). body_at a.net.now (rule_at (index_in a.table.now a.c) a.k.0 x)) i.0 ∙ sym body_is in (omega (arith, c.if-count-r.false, i.0), ap (from f a.count) i.0 ∙ c.rules.invariant.1, ap (λ (b : List ℕ). try_on (types_in a.ins.now a.a.ins) (types_in a.vars.now a.a.vars) a.heads.now a.full.now a.vals.now (rule_read (read_rule a.a.ins a.a.outs a.a.vars b)) c.loop-j.r) e) in
     let l = c in omega (arith, outer.0, l.requires.rules.few)
 
 pub overflow_add-r-in-rules : goal.overflow_add-r-in-rules
 overflow_add-r-in-rules c =
     let body_is : let a = c.args in c.rule_body-body.result.now ≡ body_at a.net.now (rule_at (index_in a.table.now a.c) a.k.0 c.rules.r) = unfold body_at in c.rule_body-body.ensures.bytes in
-    let outer : let a = c.args in let f = trial a.net.now a.table.now a.c a.k.0 a.a a.ins.now a.vars.now a.heads.now a.full.now a.vals.now in (c.loop-j.r < a.count) × (from f a.count c.loop-j.r ≡ from f a.count 0) × (f c.loop-j.r ≡ try_on (types_in a.ins.now a.a.ins) (types_in a.vars.now a.a.vars) a.heads.now a.full.now a.vals.now (rule_read (read_rule a.a.ins a.a.outs a.a.vars c.rule_body-body.result.now)) c.loop-j.r) = let i = c.loop-j.invariant in let a = c.args in let f = trial a.net.now a.table.now a.c a.k.0 a.a a.ins.now a.vars.now a.heads.now a.full.now a.vals.now in let e : body_at a.net.now (rule_at (index_in a.table.now a.c) a.k.0 c.loop-j.r) ≡ c.rule_body-body.result.now = ap (λ (x : ℕ). body_at a.net.now (rule_at (index_in a.table.now a.c) a.k.0 x)) i.0 ∙ sym body_is in ( omega (arith, c.if-count-r.false, i.0), ap (from f a.count) i.0 ∙ c.rules.invariant.1, ap (λ (b : List ℕ). try_on (types_in a.ins.now a.a.ins) (types_in a.vars.now a.a.vars) a.heads.now a.full.now a.vals.now (rule_read (read_rule a.a.ins a.a.outs a.a.vars b)) c.loop-j.r) e, ) in
+    let outer : let a = c.args in let f = trial a.net.now a.table.now a.c a.k.0 a.a a.ins.now a.vars.now a.heads.now a.full.now a.vals.now in (c.loop-j.r < a.count) × (from f a.count c.loop-j.r ≡ from f a.count 0) × (f c.loop-j.r ≡ try_on (types_in a.ins.now a.a.ins) (types_in a.vars.now a.a.vars) a.heads.now a.full.now a.vals.now (rule_read (read_rule a.a.ins a.a.outs a.a.vars c.rule_body-body.result.now)) c.loop-j.r) = let i = c.loop-j.invariant in let a = c.args in let f = trial a.net.now a.table.now a.c a.k.0 a.a a.ins.now a.vars.now a.heads.now a.full.now a.vals.now in let e : body_at a.net.now (rule_at (index_in a.table.now a.c) a.k.0 c.loop-j.r) ≡ c.rule_body-body.result.now = ap (λ (x : ℕ). body_at a.net.now (rule_at (index_in a.table.now a.c) a.k.0 x)) i.0 ∙ sym body_is in (omega (arith, c.if-count-r.false, i.0), ap (from f a.count) i.0 ∙ c.rules.invariant.1, ap (λ (b : List ℕ). try_on (types_in a.ins.now a.a.ins) (types_in a.vars.now a.a.vars) a.heads.now a.full.now a.vals.now (rule_read (read_rule a.a.ins a.a.outs a.a.vars b)) c.loop-j.r) e) in
     let l = c in omega (arith, outer.0, l.requires.rules.few)
 
 pub rules-smaller : goal.rules-smaller
 rules-smaller c =
     let body_is : let a = c.args in c.rule_body-body.result.now ≡ body_at a.net.now (rule_at (index_in a.table.now a.c) a.k.0 c.rules.r) = unfold body_at in c.rule_body-body.ensures.bytes in
-    let outer : let a = c.args in let f = trial a.net.now a.table.now a.c a.k.0 a.a a.ins.now a.vars.now a.heads.now a.full.now a.vals.now in (c.loop-j.r < a.count) × (from f a.count c.loop-j.r ≡ from f a.count 0) × (f c.loop-j.r ≡ try_on (types_in a.ins.now a.a.ins) (types_in a.vars.now a.a.vars) a.heads.now a.full.now a.vals.now (rule_read (read_rule a.a.ins a.a.outs a.a.vars c.rule_body-body.result.now)) c.loop-j.r) = let i = c.loop-j.invariant in let a = c.args in let f = trial a.net.now a.table.now a.c a.k.0 a.a a.ins.now a.vars.now a.heads.now a.full.now a.vals.now in let e : body_at a.net.now (rule_at (index_in a.table.now a.c) a.k.0 c.loop-j.r) ≡ c.rule_body-body.result.now = ap (λ (x : ℕ). body_at a.net.now (rule_at (index_in a.table.now a.c) a.k.0 x)) i.0 ∙ sym body_is in ( omega (arith, c.if-count-r.false, i.0), ap (from f a.count) i.0 ∙ c.rules.invariant.1, ap (λ (b : List ℕ). try_on (types_in a.ins.now a.a.ins) (types_in a.vars.now a.a.vars) a.heads.now a.full.now a.vals.now (rule_read (read_rule a.a.ins a.a.outs a.a.vars b)) c.loop-j.r) e, ) in
+    let outer : let a = c.args in let f = trial a.net.now a.table.now a.c a.k.0 a.a a.ins.now a.vars.now a.heads.now a.full.now a.vals.now in (c.loop-j.r < a.count) × (from f a.count c.loop-j.r ≡ from f a.count 0) × (f c.loop-j.r ≡ try_on (types_in a.ins.now a.a.ins) (types_in a.vars.now a.a.vars) a.heads.now a.full.now a.vals.now (rule_read (read_rule a.a.ins a.a.outs a.a.vars c.rule_body-body.result.now)) c.loop-j.r) = let i = c.loop-j.invariant in let a = c.args in let f = trial a.net.now a.table.now a.c a.k.0 a.a a.ins.now a.vars.now a.heads.now a.full.now a.vals.now in let e : body_at a.net.now (rule_at (index_in a.table.now a.c) a.k.0 c.loop-j.r) ≡ c.rule_body-body.result.now = ap (λ (x : ℕ). body_at a.net.now (rule_at (index_in a.table.now a.c) a.k.0 x)) i.0 ∙ sym body_is in (omega (arith, c.if-count-r.false, i.0), ap (from f a.count) i.0 ∙ c.rules.invariant.1, ap (λ (b : List ℕ). try_on (types_in a.ins.now a.a.ins) (types_in a.vars.now a.a.vars) a.heads.now a.full.now a.vals.now (rule_read (read_rule a.a.ins a.a.outs a.a.vars b)) c.loop-j.r) e) in
     let l = c in omega (arith, outer.0, l.loop-j.invariant.0)
 
 pub rules-preserved : goal.rules-preserved
 rules-preserved c =
     let body_is : let a = c.args in c.rule_body-body.result.now ≡ body_at a.net.now (rule_at (index_in a.table.now a.c) a.k.0 c.rules.r) = unfold body_at in c.rule_body-body.ensures.bytes in
     let ruled-here : let a = c.args in Ruled a.a a.ins.now a.vars.now c.rule_body-body.result.now = let h = c.requires.rules in rw body_is (h.ruled c.rules.r c.if-count-r.false) in
-    let outer : let a = c.args in let f = trial a.net.now a.table.now a.c a.k.0 a.a a.ins.now a.vars.now a.heads.now a.full.now a.vals.now in (c.loop-j.r < a.count) × (from f a.count c.loop-j.r ≡ from f a.count 0) × (f c.loop-j.r ≡ try_on (types_in a.ins.now a.a.ins) (types_in a.vars.now a.a.vars) a.heads.now a.full.now a.vals.now (rule_read (read_rule a.a.ins a.a.outs a.a.vars c.rule_body-body.result.now)) c.loop-j.r) = let i = c.loop-j.invariant in let a = c.args in let f = trial a.net.now a.table.now a.c a.k.0 a.a a.ins.now a.vars.now a.heads.now a.full.now a.vals.now in let e : body_at a.net.now (rule_at (index_in a.table.now a.c) a.k.0 c.loop-j.r) ≡ c.rule_body-body.result.now = ap (λ (x : ℕ). body_at a.net.now (rule_at (index_in a.table.now a.c) a.k.0 x)) i.0 ∙ sym body_is in ( omega (arith, c.if-count-r.false, i.0), ap (from f a.count) i.0 ∙ c.rules.invariant.1, ap (λ (b : List ℕ). try_on (types_in a.ins.now a.a.ins) (types_in a.vars.now a.a.vars) a.heads.now a.full.now a.vals.now (rule_read (read_rule a.a.ins a.a.outs a.a.vars b)) c.loop-j.r) e, ) in
+    let outer : let a = c.args in let f = trial a.net.now a.table.now a.c a.k.0 a.a a.ins.now a.vars.now a.heads.now a.full.now a.vals.now in (c.loop-j.r < a.count) × (from f a.count c.loop-j.r ≡ from f a.count 0) × (f c.loop-j.r ≡ try_on (types_in a.ins.now a.a.ins) (types_in a.vars.now a.a.vars) a.heads.now a.full.now a.vals.now (rule_read (read_rule a.a.ins a.a.outs a.a.vars c.rule_body-body.result.now)) c.loop-j.r) = let i = c.loop-j.invariant in let a = c.args in let f = trial a.net.now a.table.now a.c a.k.0 a.a a.ins.now a.vars.now a.heads.now a.full.now a.vals.now in let e : body_at a.net.now (rule_at (index_in a.table.now a.c) a.k.0 c.loop-j.r) ≡ c.rule_body-body.result.now = ap (λ (x : ℕ). body_at a.net.now (rule_at (index_in a.table.now a.c) a.k.0 x)) i.0 ∙ sym body_is in (omega (arith, c.if-count-r.false, i.0), ap (from f a.count) i.0 ∙ c.rules.invariant.1, ap (λ (b : List ℕ). try_on (types_in a.ins.now a.a.ins) (types_in a.vars.now a.a.vars) a.heads.now a.full.now a.vals.now (rule_read (read_rule a.a.ins a.a.outs a.a.vars b)) c.loop-j.r) e) in
     let s = c in
     let l = s in
     let o = outer in
@@ -127,7 +127,7 @@ unfolding mark_as
 returns-in-Fires c =
     let body_is : let a = c.args in c.rule_body-body.result.now ≡ body_at a.net.now (rule_at (index_in a.table.now a.c) a.k.0 c.rules.r) = unfold body_at in c.rule_body-body.ensures.bytes in
     let ruled-here : let a = c.args in Ruled a.a a.ins.now a.vars.now c.rule_body-body.result.now = let h = c.requires.rules in rw body_is (h.ruled c.rules.r c.if-count-r.false) in
-    let outer : let a = c.args in let f = trial a.net.now a.table.now a.c a.k.0 a.a a.ins.now a.vars.now a.heads.now a.full.now a.vals.now in (c.loop-j.r < a.count) × (from f a.count c.loop-j.r ≡ from f a.count 0) × (f c.loop-j.r ≡ try_on (types_in a.ins.now a.a.ins) (types_in a.vars.now a.a.vars) a.heads.now a.full.now a.vals.now (rule_read (read_rule a.a.ins a.a.outs a.a.vars c.rule_body-body.result.now)) c.loop-j.r) = let i = c.loop-j.invariant in let a = c.args in let f = trial a.net.now a.table.now a.c a.k.0 a.a a.ins.now a.vars.now a.heads.now a.full.now a.vals.now in let e : body_at a.net.now (rule_at (index_in a.table.now a.c) a.k.0 c.loop-j.r) ≡ c.rule_body-body.result.now = ap (λ (x : ℕ). body_at a.net.now (rule_at (index_in a.table.now a.c) a.k.0 x)) i.0 ∙ sym body_is in ( omega (arith, c.if-count-r.false, i.0), ap (from f a.count) i.0 ∙ c.rules.invariant.1, ap (λ (b : List ℕ). try_on (types_in a.ins.now a.a.ins) (types_in a.vars.now a.a.vars) a.heads.now a.full.now a.vals.now (rule_read (read_rule a.a.ins a.a.outs a.a.vars b)) c.loop-j.r) e, ) in
+    let outer : let a = c.args in let f = trial a.net.now a.table.now a.c a.k.0 a.a a.ins.now a.vars.now a.heads.now a.full.now a.vals.now in (c.loop-j.r < a.count) × (from f a.count c.loop-j.r ≡ from f a.count 0) × (f c.loop-j.r ≡ try_on (types_in a.ins.now a.a.ins) (types_in a.vars.now a.a.vars) a.heads.now a.full.now a.vals.now (rule_read (read_rule a.a.ins a.a.outs a.a.vars c.rule_body-body.result.now)) c.loop-j.r) = let i = c.loop-j.invariant in let a = c.args in let f = trial a.net.now a.table.now a.c a.k.0 a.a a.ins.now a.vars.now a.heads.now a.full.now a.vals.now in let e : body_at a.net.now (rule_at (index_in a.table.now a.c) a.k.0 c.loop-j.r) ≡ c.rule_body-body.result.now = ap (λ (x : ℕ). body_at a.net.now (rule_at (index_in a.table.now a.c) a.k.0 x)) i.0 ∙ sym body_is in (omega (arith, c.if-count-r.false, i.0), ap (from f a.count) i.0 ∙ c.rules.invariant.1, ap (λ (b : List ℕ). try_on (types_in a.ins.now a.a.ins) (types_in a.vars.now a.a.vars) a.heads.now a.full.now a.vals.now (rule_read (read_rule a.a.ins a.a.outs a.a.vars b)) c.loop-j.r) e) in
     let s = c in
     let l = s in
     let o = outer in
@@ -139,7 +139,7 @@ unfolding mark_as
 returns-in-Faulty c =
     let body_is : let a = c.args in c.rule_body-body.result.now ≡ body_at a.net.now (rule_at (index_in a.table.now a.c) a.k.0 c.rules.r) = unfold body_at in c.rule_body-body.ensures.bytes in
     let ruled-here : let a = c.args in Ruled a.a a.ins.now a.vars.now c.rule_body-body.result.now = let h = c.requires.rules in rw body_is (h.ruled c.rules.r c.if-count-r.false) in
-    let outer : let a = c.args in let f = trial a.net.now a.table.now a.c a.k.0 a.a a.ins.now a.vars.now a.heads.now a.full.now a.vals.now in (c.loop-j.r < a.count) × (from f a.count c.loop-j.r ≡ from f a.count 0) × (f c.loop-j.r ≡ try_on (types_in a.ins.now a.a.ins) (types_in a.vars.now a.a.vars) a.heads.now a.full.now a.vals.now (rule_read (read_rule a.a.ins a.a.outs a.a.vars c.rule_body-body.result.now)) c.loop-j.r) = let i = c.loop-j.invariant in let a = c.args in let f = trial a.net.now a.table.now a.c a.k.0 a.a a.ins.now a.vars.now a.heads.now a.full.now a.vals.now in let e : body_at a.net.now (rule_at (index_in a.table.now a.c) a.k.0 c.loop-j.r) ≡ c.rule_body-body.result.now = ap (λ (x : ℕ). body_at a.net.now (rule_at (index_in a.table.now a.c) a.k.0 x)) i.0 ∙ sym body_is in ( omega (arith, c.if-count-r.false, i.0), ap (from f a.count) i.0 ∙ c.rules.invariant.1, ap (λ (b : List ℕ). try_on (types_in a.ins.now a.a.ins) (types_in a.vars.now a.a.vars) a.heads.now a.full.now a.vals.now (rule_read (read_rule a.a.ins a.a.outs a.a.vars b)) c.loop-j.r) e, ) in
+    let outer : let a = c.args in let f = trial a.net.now a.table.now a.c a.k.0 a.a a.ins.now a.vars.now a.heads.now a.full.now a.vals.now in (c.loop-j.r < a.count) × (from f a.count c.loop-j.r ≡ from f a.count 0) × (f c.loop-j.r ≡ try_on (types_in a.ins.now a.a.ins) (types_in a.vars.now a.a.vars) a.heads.now a.full.now a.vals.now (rule_read (read_rule a.a.ins a.a.outs a.a.vars c.rule_body-body.result.now)) c.loop-j.r) = let i = c.loop-j.invariant in let a = c.args in let f = trial a.net.now a.table.now a.c a.k.0 a.a a.ins.now a.vars.now a.heads.now a.full.now a.vals.now in let e : body_at a.net.now (rule_at (index_in a.table.now a.c) a.k.0 c.loop-j.r) ≡ c.rule_body-body.result.now = ap (λ (x : ℕ). body_at a.net.now (rule_at (index_in a.table.now a.c) a.k.0 x)) i.0 ∙ sym body_is in (omega (arith, c.if-count-r.false, i.0), ap (from f a.count) i.0 ∙ c.rules.invariant.1, ap (λ (b : List ℕ). try_on (types_in a.ins.now a.a.ins) (types_in a.vars.now a.a.vars) a.heads.now a.full.now a.vals.now (rule_read (read_rule a.a.ins a.a.outs a.a.vars b)) c.loop-j.r) e) in
     let s = c in
     let l = s in
     let o = outer in
