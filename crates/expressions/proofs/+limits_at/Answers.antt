@@ -1,5 +1,5 @@
-use Rattle.std.proofs.Common.{◌≡◌, true, ◌-◌, get_or, drop, refl, sym, ◌∙◌, arith}
-use Rattle.model.specs.Expressions.{head_fits, expression}
+use Rattle.std.proofs.Common.{◌-◌, get_or, drop, refl, sym, ◌∙◌, arith}
+use Rattle.model.specs.Expressions.{expression}
 use Rattle.expressions.proofs.Reading.{head_pos}
 use Rattle.expressions.proofs.Heads.{head_at, fits_whole}
 use Rattle.expressions.proofs.Depths.{no_depth, limits_none, limits_imprecise, limits_start, walk-bad, walk_good, walk_done, limits_within}
@@ -19,14 +19,14 @@ precise_head-requires t c =
 pub returns-then-not-precise_head : goal.returns-then-not-precise_head
 returns-then-not-precise_head t c =
     let a = c.args in
-    let fits : head_fits (drop a.at a.s.now) ≡ true = sym c.head_fits.ensures ∙ c.if-not-head_fits.false in
+    let fits = sym c.head_fits.ensures ∙ c.if-not-head_fits.false in
     sym (limits_imprecise a.s.now a.at _ (head_at a.at a.s.now) fits a.depth c.if-depth-eq0.false (sym c.precise_head.ensures ∙ c.if-not-precise_head.true))
 
 -- the head that fits ends within the bytes
 pub loop-left-init : goal.loop-left-init
 loop-left-init t c =
     let a = c.args in
-    let fits : head_fits (drop a.at a.s.now) ≡ true = sym c.head_fits.ensures ∙ c.if-not-head_fits.false in
+    let fits = sym c.head_fits.ensures ∙ c.if-not-head_fits.false in
     let start = limits_start a.s.now a.at _ (head_at a.at a.s.now ∙ sym c.byte_at-c.ensures) fits a.depth c.if-depth-eq0.false (sym c.precise_head.ensures ∙ c.if-not-precise_head.false) in
     record {
       inside = rw c.head_size.ensures.0 (fits_whole a.s.now a.at _ c.byte_at-c.ensures fits);

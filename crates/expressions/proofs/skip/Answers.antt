@@ -1,14 +1,23 @@
 use mathlib.Core.Path.{◌≡◌, sym, ◌∙◌}
-use mathlib.Core.Bool.{true}
-use Prim.Native.Nat.{◌+◌, ◌≤◌}
+use mathlib.Core.List.{List}
+use Prim.Native.Nat.{ℕ, ◌+◌, ◌-◌, ◌≤◌, ◌<◌}
 use native.Mathlib.Omega.{arith}
-use lib.ListN.{length, drop}
-use Rattle.model.specs.Expressions.{head_fits, expression}
+use lib.ListN.{get_or, length, drop}
+use Rattle.model.specs.Expressions.{head_size, operands, expression}
 use Rattle.expressions.specs.declared.Form.TheVariants.{Bytes}
 use Rattle.expressions.specs.Reading.{skip_to}
-use Rattle.expressions.proofs.Reading.{ends_whole, turn, done, goes_on, skip_is, head_pos}
+use Rattle.expressions.proofs.Reading.{ends, ends_whole, turn, done, goes_on, skip_is, head_pos}
 use Rattle.expressions.proofs.Heads.{head_at, fits_whole}
 use Rattle.expressions.proofs.skip.Goals as goal
+
+-- where p expressions end at e, the first has a head of n bytes
+module _ (s : List ℕ) (p at : ℕ) {e c n : ℕ} (l : 0 < p) (h : ends p at s ≡ Bytes e) (is : c ≡ get_or s at 0) (size : n ≡ head_size c) where
+  whole : (at + n ≤ length s) × (1 ≤ n)
+  whole = (rw size (fits_whole s at c is (goes_on s p at e l h)), rw size (head_pos c))
+
+  -- and what is left ends there too
+  left_is : {m : ℕ} → m ≡ operands c → ends (p - 1 + m) (at + n) s ≡ Bytes e
+  left_is k = rw (k, size) (sym (turn s p at c l (goes_on s p at e l h) (head_at at s ∙ sym is)) ∙ h)
 
 pub loop-left-init : goal.loop-left-init
 loop-left-init c =
@@ -17,32 +26,29 @@ loop-left-init c =
 
 pub overflow_add-left : goal.overflow_add-left
 overflow_add-left c =
-    let fitting : head_fits (drop c.loop-left.at c.args.s.now) ≡ true = let i = c.loop-left in goes_on c.args.s.now i.left i.at _ c.loop-left-test.true i.invariant.1 in
-    let advance : c.loop-left.at + c.head_size-head.result ≤ length c.args.s.now = rw c.head_size-head.ensures.0 (fits_whole c.args.s.now c.loop-left.at _ c.byte_at-c.ensures fitting) in
-    let moves : 1 ≤ c.head_size-head.result = rw c.head_size-head.ensures.0 (head_pos c.byte_at-c.result) in
-    record { fits = omega (arith, advance, moves) }
+    let i = c.loop-left in
+    let w = whole c.args.s.now i.left i.at c.loop-left-test.true i.invariant.1 c.byte_at-c.ensures c.head_size-head.ensures.0 in
+    record { fits = omega (arith, w.0, w.1) }
 
 pub overflow_add-at : goal.overflow_add-at
 overflow_add-at c =
-    let fitting : head_fits (drop c.loop-left.at c.args.s.now) ≡ true = let i = c.loop-left in goes_on c.args.s.now i.left i.at _ c.loop-left-test.true i.invariant.1 in
-    let advance : c.loop-left.at + c.head_size-head.result ≤ length c.args.s.now = rw c.head_size-head.ensures.0 (fits_whole c.args.s.now c.loop-left.at _ c.byte_at-c.ensures fitting) in
-    record { fits = omega (arith, advance) }
+    let i = c.loop-left in
+    let w = whole c.args.s.now i.left i.at c.loop-left-test.true i.invariant.1 c.byte_at-c.ensures c.head_size-head.ensures.0 in
+    record { fits = omega (arith, w.0) }
 
 pub loop-left-smaller : goal.loop-left-smaller
 loop-left-smaller c =
-    let fitting : head_fits (drop c.loop-left.at c.args.s.now) ≡ true = let i = c.loop-left in goes_on c.args.s.now i.left i.at _ c.loop-left-test.true i.invariant.1 in
-    let advance : c.loop-left.at + c.head_size-head.result ≤ length c.args.s.now = rw c.head_size-head.ensures.0 (fits_whole c.args.s.now c.loop-left.at _ c.byte_at-c.ensures fitting) in
-    let moves : 1 ≤ c.head_size-head.result = rw c.head_size-head.ensures.0 (head_pos c.byte_at-c.result) in
-    omega (arith, advance, moves)
+    let i = c.loop-left in
+    let w = whole c.args.s.now i.left i.at c.loop-left-test.true i.invariant.1 c.byte_at-c.ensures c.head_size-head.ensures.0 in
+    omega (arith, w.0, w.1)
 
 pub loop-left-preserved : goal.loop-left-preserved
 loop-left-preserved c =
-    let fitting : head_fits (drop c.loop-left.at c.args.s.now) ≡ true = let i = c.loop-left in goes_on c.args.s.now i.left i.at _ c.loop-left-test.true i.invariant.1 in
-    let moves : 1 ≤ c.head_size-head.result = rw c.head_size-head.ensures.0 (head_pos c.byte_at-c.result) in
     let i = c.loop-left in
-    let b = c.byte_at-c in
-    let w = turn c.args.s.now i.left i.at b.result c.loop-left-test.true fitting (head_at i.at c.args.s.now ∙ sym b.ensures) in
-    (omega (arith, moves), rw (c.operands.ensures.0, c.head_size-head.ensures.0) (sym w ∙ i.invariant.1))
+    let s = c.args.s.now in
+    let w = whole s i.left i.at c.loop-left-test.true i.invariant.1 c.byte_at-c.ensures c.head_size-head.ensures.0 in
+    let e = left_is s i.left i.at c.loop-left-test.true i.invariant.1 c.byte_at-c.ensures c.head_size-head.ensures.0 c.operands.ensures.0 in
+    (omega (arith, w.1), e)
 
 pub returns : goal.returns
 returns c =

@@ -1,11 +1,8 @@
-use mathlib.Core.Path.{refl, sym, ◌∙◌}
+use mathlib.Core.Path.{sym, ◌∙◌}
 use Rattle.model.specs.Rules.{read_action}
 use Rattle.rules.specs.Bodies.{action_codes, actions_from}
 use Rattle.rules.proofs.Ends.{end_step, end_bad, end_none}
 use Rattle.rules.proofs.actions_end.Goals as goal
-
-pub loop-left-init : goal.loop-left-init
-loop-left-init c = refl
 
 pub returns-in_default : goal.returns-in_default
 unfolding actions_from

@@ -7,8 +7,10 @@ use mathlib.Core.List.{List}
 use mathlib.Core.Path.{◌∙◌, ap}
 use Rattle.shapes.proofs.shape_of.Goals as goal
 
-pub shape_in-requires : goal.shape_in-requires
-shape_in-requires c = let p = c.requires in record { wires_in_bounds = p.wires_in_bounds; body_fits = body_fits _ _ _ _ p.box_fits c.two_at.ensures.0 c.part-body.ensures.bytes; in_bounds = p.in_bounds }
+pub shape_in-requires-clause-body_fits : goal.shape_in-requires-clause-body_fits
+shape_in-requires-clause-body_fits c = body_fits _ _ _ _ c.requires.box_fits c.two_at.ensures.0 c.part-body.ensures.bytes
 
 pub returns : goal.returns
-returns c = let a = c.args in c.shape_in.ensures ∙ ap (λ (b : List ℕ). shape_of (wires_in a.net.now a.table.now a.wires) (box_of b)) (body_is _ _ _ _ c.two_at.ensures.0 c.part-body.ensures.bytes)
+returns c =
+    let a = c.args in
+    c.shape_in.ensures ∙ ap (λ (b : List ℕ). shape_of (wires_in a.net.now a.table.now a.wires) (box_of b)) (body_is _ _ _ _ c.two_at.ensures.0 c.part-body.ensures.bytes)

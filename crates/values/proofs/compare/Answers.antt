@@ -28,4 +28,5 @@ pub returns-in_default : goal.returns-in_default
 unfolding compare
 returns-in_default c =
     let o = c.args.o in
-    rw (to_z-of_z c.ranges.a, to_z-of_z c.ranges.b, ne_eqb o 24 c.in_default.in_default-own.rest.1, ne_eqb o 23 c.in_default.in_default-own.rest.0.1, ne_eqb o 22 c.in_default.in_default-own.rest.0.0.1, ne_eqb o 21 c.in_default.in_default-own.rest.0.0.0.1, ne_eqb o 20 c.in_default.in_default-own.rest.0.0.0.0.1)
+    let r = c.in_default.in_default-own.rest in
+    rw (to_z-of_z c.ranges.a, to_z-of_z c.ranges.b, ne_eqb o 24 r.1, ne_eqb o 23 r.0.1, ne_eqb o 22 r.0.0.1, ne_eqb o 21 r.0.0.0.1, ne_eqb o 20 r.0.0.0.0.1)

@@ -48,8 +48,7 @@ returns-then-k-gt3 c = sym (no_code _ _ (sym c.tag_fits.ensures ∙ c.if-not-tag
 
 pub returns-then-k : goal.returns-then-k
 returns-then-k c =
-    let e = c in
-    zero_bits _ (record { sfits = c.struct_told-1.given.1.0.1 }) ∙ sym (mark _ _ (sym e.tag_fits.ensures ∙ e.if-not-tag_fits.false) c.if-k-gt3.false c.if-k.true)
+    zero_bits _ (record { sfits = c.struct_told-1.given.1.0.1 }) ∙ sym (mark _ _ (sym c.tag_fits.ensures ∙ c.if-not-tag_fits.false) c.if-k-gt3.false c.if-k.true)
 
 pub within-requires : goal.within-requires
 within-requires c = record {
@@ -59,5 +58,5 @@ within-requires c = record {
 
 pub returns : goal.returns
 returns c =
-    let e = c in
-    rw (c.within.ensures, c.carried-u.ensures, to_z-of_z (record { sfits = c.struct_told-2-1.given.1.0.1 })) (sym (data-fits _ _ (sym e.tag_fits.ensures ∙ e.if-not-tag_fits.false) c.if-k-gt3.false c.if-k.false))
+    rw (c.within.ensures, c.carried-u.ensures, to_z-of_z (record { sfits = c.struct_told-2-1.given.1.0.1 }))
+    (sym (data-fits _ _ (sym c.tag_fits.ensures ∙ c.if-not-tag_fits.false) c.if-k-gt3.false c.if-k.false))
