@@ -2,16 +2,15 @@ use mathlib.Core.Bool.{true}
 use Prim.Native.Nat.{◌-◌}
 use native.Mathlib.Omega.{arith}
 use Rattle.types.specs.Scopes.{scope_in}
-use Rattle.actions.proofs.Acting.{First, ready_there, ready_first}
+use Rattle.actions.proofs.Acting.{ready_there, ready_first}
 use Rattle.putting.proofs.Sent.{workable}
 use Rattle.putting.proofs.Kept.{kept_start, kept_can, kept_next, kept_last}
 use Rattle.putting.proofs.keep_new.Goals as goal
 
 pub loop-var-init : goal.loop-var-init
 loop-var-init c =
-    let s = c in
-    let p = s.requires in
-    (omega arith, kept_start _ _ _ _ _ _ s.requires.standing _ s.requires.k_lt_boxes _ _ _ _ _ p.keeps p.ready)
+    let p = c.requires in
+    (omega arith, kept_start _ _ _ _ _ _ c.requires.standing _ c.requires.k_lt_boxes _ _ _ _ _ p.keeps p.ready)
 
 pub skip_action-next-requires : goal.skip_action-next-requires
 skip_action-next-requires c =
@@ -21,29 +20,28 @@ skip_action-next-requires c =
 
 pub keep_one-requires : goal.keep_one-requires
 keep_one-requires c =
-    let first : let a = c.args in let i = c.loop-var in First (scope_in a.types.now) true a.body.now (a.vars - i.var) i.at c.skip_action-next.result = let a = c.args in let i = c.loop-var in ready_first (scope_in a.types.now) true a.body.now (a.vars - i.var) i.at (omega arith) i.invariant.1.ready _ c.skip_action-next.ensures in
-    let s = c in
-    let p = s.requires in
+    let a = c.args in
     let i = c.loop-var in
+    let f = ready_first (scope_in a.types.now) true a.body.now (a.vars - i.var) i.at (omega arith) i.invariant.1.ready _ c.skip_action-next.ensures in
+    let p = c.requires in
     let t = c.loop-var-test.true in
-    let f = first in
-    record { standing = i.invariant.1.left.became.stands; j_bound = omega (arith, t, p.vars_bound.0); workable = workable f; env_fits = p.env_fits; can_keep = kept_can _ _ _ _ _ _ s.requires.standing _ s.requires.k_lt_boxes _ _ _ _ _ p.keeps p.vars_bound.1 _ _ _ _ t f i.invariant.1 }
+    let q = kept_can _ _ _ _ _ _ c.requires.standing _ c.requires.k_lt_boxes _ _ _ _ _ p.keeps p.vars_bound.1 _ _ _ _ t f i.invariant.1 in
+    record { standing = i.invariant.1.left.became.stands; j_bound = omega (arith, t, p.vars_bound.0); workable = workable f; env_fits = p.env_fits; can_keep = q }
 
 pub loop-var-preserved : goal.loop-var-preserved
 loop-var-preserved c =
-    let first : let a = c.args in let i = c.loop-var in First (scope_in a.types.now) true a.body.now (a.vars - i.var) i.at c.skip_action-next.result = let a = c.args in let i = c.loop-var in ready_first (scope_in a.types.now) true a.body.now (a.vars - i.var) i.at (omega arith) i.invariant.1.ready _ c.skip_action-next.ensures in
-    let s = c in
-    let p = s.requires in
+    let a = c.args in
     let i = c.loop-var in
+    let f = ready_first (scope_in a.types.now) true a.body.now (a.vars - i.var) i.at (omega arith) i.invariant.1.ready _ c.skip_action-next.ensures in
+    let p = c.requires in
     let t = c.loop-var-test.true in
-    (omega arith, kept_next _ _ _ _ _ _ s.requires.standing _ s.requires.k_lt_boxes _ _ _ _ _ p.keeps p.vars_bound.1 _ _ _ _ t first i.invariant.1 _ c.keep_one.ensures)
+    (omega arith, kept_next _ _ _ _ _ _ c.requires.standing _ c.requires.k_lt_boxes _ _ _ _ _ p.keeps p.vars_bound.1 _ _ _ _ t f i.invariant.1 _ c.keep_one.ensures)
 
 pub shape_of-state : goal.shape_of-state
 shape_of-state c = c.loop-var.invariant.1.left.became.long
 
 pub returns : goal.returns
 returns c =
-    let s = c in
-    let p = s.requires in
+    let p = c.requires in
     let i = c.loop-var in
-    kept_last _ _ _ _ _ _ s.requires.standing _ s.requires.k_lt_boxes _ _ _ _ _ p.keeps p.vars_bound.1 _ _ _ c.loop-var-test.false i.invariant.0 i.invariant.1
+    kept_last _ _ _ _ _ _ c.requires.standing _ c.requires.k_lt_boxes _ _ _ _ _ p.keeps p.vars_bound.1 _ _ _ c.loop-var-test.false i.invariant.0 i.invariant.1

@@ -2,15 +2,14 @@ use mathlib.Core.Bool.{false}
 use Prim.Native.Nat.{◌-◌}
 use native.Mathlib.Omega.{arith}
 use Rattle.types.specs.Scopes.{scope_in}
-use Rattle.actions.proofs.Acting.{First, ready_there, ready_first}
+use Rattle.actions.proofs.Acting.{ready_there, ready_first}
 use Rattle.putting.proofs.Sent.{sent_start, sent_places, sent_next, sent_last, workable}
 use Rattle.putting.proofs.put_sent.Goals as goal
 
 pub loop-out-init : goal.loop-out-init
 loop-out-init c =
-    let s = c in
-    let p = s.requires in
-    (omega arith, sent_start _ _ _ _ _ _ _ _ _ _ _ _ s.requires.standing p.ready p.places)
+    let p = c.requires in
+    (omega arith, sent_start _ _ _ _ _ _ _ _ _ _ _ _ c.requires.standing p.ready p.places)
 
 pub skip_action-next-requires : goal.skip_action-next-requires
 skip_action-next-requires c =
@@ -20,25 +19,23 @@ skip_action-next-requires c =
 
 pub put_one-requires : goal.put_one-requires
 put_one-requires c =
-    let first : let a = c.args in let i = c.loop-out in First (scope_in a.types.now) false a.body.now (a.outs - i.out) i.at c.skip_action-next.result = let a = c.args in let i = c.loop-out in ready_first (scope_in a.types.now) false a.body.now (a.outs - i.out) i.at (omega arith) i.invariant.1.ready _ c.skip_action-next.ensures in
-    let s = c in
+    let a = c.args in
     let i = c.loop-out in
-    let f = first in
+    let f = ready_first (scope_in a.types.now) false a.body.now (a.outs - i.out) i.at (omega arith) i.invariant.1.ready _ c.skip_action-next.ensures in
     let t = c.loop-out-test.true in
-    record { standing = i.invariant.1.left.became.stands; k_lt_boxes = s.requires.k_lt_boxes; j_in_bounds = omega (arith, s.requires.outs_value, t); workable = workable f; env_fits = s.requires.env_fits; places = sent_places _ _ _ _ _ _ _ _ _ _ _ _ s.requires.outs_value _ _ _ _ t f i.invariant.1 }
+    let q = sent_places _ _ _ _ _ _ _ _ _ _ _ _ c.requires.outs_value _ _ _ _ t f i.invariant.1 in
+    record { standing = i.invariant.1.left.became.stands; k_lt_boxes = c.requires.k_lt_boxes; j_in_bounds = omega (arith, c.requires.outs_value, t); workable = workable f; env_fits = c.requires.env_fits; places = q }
 
 pub loop-out-preserved : goal.loop-out-preserved
 loop-out-preserved c =
-    let first : let a = c.args in let i = c.loop-out in First (scope_in a.types.now) false a.body.now (a.outs - i.out) i.at c.skip_action-next.result = let a = c.args in let i = c.loop-out in ready_first (scope_in a.types.now) false a.body.now (a.outs - i.out) i.at (omega arith) i.invariant.1.ready _ c.skip_action-next.ensures in
-    let s = c in
+    let a = c.args in
     let i = c.loop-out in
+    let f = ready_first (scope_in a.types.now) false a.body.now (a.outs - i.out) i.at (omega arith) i.invariant.1.ready _ c.skip_action-next.ensures in
     let t = c.loop-out-test.true in
-    (omega arith, sent_next _ _ _ _ _ _ _ _ _ _ _ _ s.requires.outs_value _ _ _ _ t first i.invariant.1 _ c.put_one.ensures)
+    (omega arith, sent_next _ _ _ _ _ _ _ _ _ _ _ _ c.requires.outs_value _ _ _ _ t f i.invariant.1 _ c.put_one.ensures)
 
 pub shape_of-state : goal.shape_of-state
 shape_of-state c = c.loop-out.invariant.1.left.became.long
 
 pub returns : goal.returns
-returns c =
-    let s = c in
-    sent_last _ _ _ _ _ _ _ _ _ _ _ _ s.requires.outs_value _ _ _ c.loop-out-test.false c.loop-out.invariant.1
+returns c = sent_last _ _ _ _ _ _ _ _ _ _ _ _ c.requires.outs_value _ _ _ c.loop-out-test.false c.loop-out.invariant.1

@@ -1,27 +1,35 @@
 use mathlib.Core.Path.{◌≡◌, sym, ap, ◌∙◌}
+use mathlib.Core.List.{List}
+use Prim.Native.Nat.{ℕ}
 use native.Mathlib.Omega.{arith}
+use lib.IntN.{ℤ}
+use lib.ListN.{drop}
 use Rattle.values.proofs.Machine.{back}
 use Rattle.model.specs.Values.{is_true}
+use Rattle.expressions.specs.Reading.{skip_to}
+use Rattle.model.specs.Expressions.{expression}
 use Rattle.model.specs.Rules.{rule_read, read_rule}
 use Rattle.evaluation.specs.Envs.{env_in}
+use Rattle.shapes.specs.declared.Arity.{Arity}
+use Rattle.trying.specs.Working.{AtGuard}
 use Rattle.trying.proofs.Offsets.{guard_there, guard_end, outs_there}
 use Rattle.trying.proofs.Judging.{guard_ready, judge_shut, Opened, opened, judge_fault, judge_false, judge_true}
 use Rattle.trying.proofs.judge.Goals as goal
+
+-- the output actions begin where the guard ends
+outs_begin : {a : Arity} {b types : List ℕ} {vals : List ℤ} {at e : ℕ} (h : AtGuard a b at vals types) → e ≡ skip_to at (expression (drop at b)) → e ≡ h.work.parts.outs
+outs_begin h q = q ∙ guard_end _ _ _ h.work.laid _ h.guard
 
 pub skip-outs-requires : goal.skip-outs-requires
 skip-outs-requires c = let h = c.requires in guard_there _ _ _ h.work.laid _ h.guard
 
 pub outs_open-requires : goal.outs_open-requires
-outs_open-requires c =
-    let outs_at_lem : c.skip-outs.result ≡ c.requires.work.parts.outs = let h = c.requires in c.skip-outs.ensures ∙ guard_end _ _ _ h.work.laid _ h.guard in
-    outs_there _ _ _ c.requires.work.laid _ outs_at_lem
+outs_open-requires c = outs_there _ _ _ c.requires.work.laid _ (outs_begin c.requires c.skip-outs.ensures)
 
 pub returns-in_default : goal.returns-in_default
 returns-in_default c =
-    let outs_at_lem : c.skip-outs.result ≡ c.requires.work.parts.outs = let h = c.requires in c.skip-outs.ensures ∙ guard_end _ _ _ h.work.laid _ h.guard in
-    let d = c in
-    let h = d.requires in
-    judge_shut _ _ _ _ h.work _ _ _ h.guard _ outs_at_lem (sym c.in_default.is ∙ d.outs_open.ensures)
+    let h = c.requires in
+    judge_shut _ _ _ _ h.work _ _ _ h.guard _ (outs_begin c.requires c.skip-outs.ensures) (sym c.in_default.is ∙ c.outs_open.ensures)
 
 pub value-requires : goal.value-requires
 value-requires c =
@@ -31,29 +39,29 @@ value-requires c =
 
 pub returns-then-not-is_true : goal.returns-then-not-is_true
 returns-then-not-is_true c =
-    let outs_at_lem : c.skip-outs.result ≡ c.requires.work.parts.outs = let h = c.requires in c.skip-outs.ensures ∙ guard_end _ _ _ h.work.laid _ h.guard in
-    let d = c in
     let h = c.requires in
-    judge_false _ _ _ _ h.work _ _ _ h.guard _ (opened _ _ _ _ c.requires.work _ _ _ c.requires.guard _ _ outs_at_lem (sym c.in-Open.is ∙ c.outs_open.ensures)) _ _ (sym c.in-Value.is ∙ d.value.ensures) (ap is_true (sym (back {z = c.in-Value.value} (omega arith))) ∙ sym c.is_true.ensures ∙ c.if-not-is_true.true)
+    let t = ap is_true (sym (back {z = c.in-Value.value} (omega arith))) ∙ sym c.is_true.ensures ∙ c.if-not-is_true.true in
+    let o = opened _ _ _ _ h.work _ _ _ h.guard _ _ (outs_begin c.requires c.skip-outs.ensures) (sym c.in-Open.is ∙ c.outs_open.ensures) in
+    judge_false _ _ _ _ h.work _ _ _ h.guard _ o _ _ (sym c.in-Value.is ∙ c.value.ensures) t
 
 pub chosen-requires : goal.chosen-requires
 chosen-requires c =
     let h = c.requires in
+    let e = outs_begin c.requires c.skip-outs.ensures in
     let a = c.args in
-    let outs_at_lem : c.skip-outs.result ≡ h.work.parts.outs = c.skip-outs.ensures ∙ guard_end _ _ _ h.work.laid _ h.guard in
-    let o : Opened (env_in a.vals.now a.types.now) a.full.now (rule_read (read_rule a.a.ins a.a.outs a.a.vars a.b.now)) h.work.parts.sets c.in-Open.sets = opened _ _ _ _ h.work _ _ _ h.guard _ _ outs_at_lem (sym c.in-Open.is ∙ c.outs_open.ensures) in
-    record { work = h.work; outs = outs_at_lem; sets = o.sets }
+    let r = rule_read (read_rule a.a.ins a.a.outs a.a.vars a.b.now) in
+    let o : Opened (env_in a.vals.now a.types.now) a.full.now r h.work.parts.sets c.in-Open.sets = opened _ _ _ _ h.work _ _ _ h.guard _ _ e (sym c.in-Open.is ∙ c.outs_open.ensures) in
+    record { work = h.work; outs = e; sets = o.sets }
 
 pub returns-in-Fault : goal.returns-in-Fault
 returns-in-Fault c =
-    let outs_at_lem : c.skip-outs.result ≡ c.requires.work.parts.outs = let h = c.requires in c.skip-outs.ensures ∙ guard_end _ _ _ h.work.laid _ h.guard in
-    let d = c in
     let h = c.requires in
-    judge_fault _ _ _ _ h.work _ _ _ h.guard _ (opened _ _ _ _ c.requires.work _ _ _ c.requires.guard _ _ outs_at_lem (sym c.in-Open.is ∙ c.outs_open.ensures)) _ (sym c.in-Fault.is ∙ d.value.ensures)
+    let o = opened _ _ _ _ h.work _ _ _ h.guard _ _ (outs_begin c.requires c.skip-outs.ensures) (sym c.in-Open.is ∙ c.outs_open.ensures) in
+    judge_fault _ _ _ _ h.work _ _ _ h.guard _ o _ (sym c.in-Fault.is ∙ c.value.ensures)
 
 pub returns-else-not-is_true : goal.returns-else-not-is_true
 returns-else-not-is_true c =
-    let outs_at_lem : c.skip-outs.result ≡ c.requires.work.parts.outs = let h = c.requires in c.skip-outs.ensures ∙ guard_end _ _ _ h.work.laid _ h.guard in
-    let d = c in
     let h = c.requires in
-    judge_true _ _ _ _ h.work _ _ _ h.guard _ (opened _ _ _ _ c.requires.work _ _ _ c.requires.guard _ _ outs_at_lem (sym c.in-Open.is ∙ c.outs_open.ensures)) _ _ (sym c.in-Value.is ∙ d.value.ensures) (ap is_true (sym (back {z = c.in-Value.value} (omega arith))) ∙ sym c.is_true.ensures ∙ c.if-not-is_true.false) c.chosen.ensures
+    let t = ap is_true (sym (back {z = c.in-Value.value} (omega arith))) ∙ sym c.is_true.ensures ∙ c.if-not-is_true.false in
+    let o = opened _ _ _ _ h.work _ _ _ h.guard _ _ (outs_begin c.requires c.skip-outs.ensures) (sym c.in-Open.is ∙ c.outs_open.ensures) in
+    judge_true _ _ _ _ h.work _ _ _ h.guard _ o _ _ (sym c.in-Value.is ∙ c.value.ensures) t c.chosen.ensures
