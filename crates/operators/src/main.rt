@@ -4,20 +4,16 @@
 ghost use Rattle.std.specs.Prelude.{◌≤◌, ◌<◌, ◌^◌};
 ghost use Rattle.std.specs.Int.Signed.{mag};
 
-use libc::{STDIN_FILENO, STDOUT_FILENO};
 use model::{Outcome, Ty};
+use std::io;
+use std::io::Read;
 
-// A value in decimal: its four-byte pattern tells the sign and the digits.
-fn print_value(z: i64)
-    requires { mag z < 2 ^ 31 }
-{
-    let n = octets::pattern(z);
-    if n < 2147483648 {
-        io::print_decimal(STDOUT_FILENO, n as u64);
-        return;
-    }
-    io::write_all(STDOUT_FILENO, b"-");
-    io::print_decimal(STDOUT_FILENO, (4294967296 - n) as u64);
+// The most bytes of rows that are read; what follows them is left out.
+const MOST: u64 = 65536;
+
+// A value in decimal.
+fn print_value(rt: &impl Print, z: i64) -> io::Result<()> {
+    print!(rt; "{z}")
 }
 
 // What an operator gives: 3 is a cast to the type, 4 and 5 have one operand, the others two.
@@ -37,14 +33,11 @@ fn worked(code: u8, t: Ty, a: i64, b: i64) -> Outcome
     values::apply(code, t, a, b)
 }
 
-// One row.
-fn row(s: &[u8]) {
+// One row: a line of its own, and nothing for a precision that no type has.
+fn row(rt: &impl Print, s: &[u8]) -> io::Result<()> {
     let p = octets::byte_at(s, 2);
-    if p < 1 {
-        return;
-    }
-    if 30 < p {
-        return;
+    if p < 1 || 30 < p {
+        return Ok(());
     }
     let t = Ty {
         kind: octets::byte_at(s, 1),
@@ -52,28 +45,22 @@ fn row(s: &[u8]) {
     };
     let a = octets::value_at(s, 3);
     let b = octets::value_at(s, 7);
-    let r = worked(octets::byte_at(s, 0), t, a, b);
-    match r {
+    match worked(octets::byte_at(s, 0), t, a, b) {
         Outcome::Value { ty: _, value } => {
             if values::within(Ty { kind: 1, p: 31 }, value) {
-                print_value(value);
+                print_value(rt, value)?;
             }
         }
-        Outcome::Fault { number } => {
-            io::write_all(STDOUT_FILENO, b"fault ");
-            io::print_decimal(STDOUT_FILENO, number as u64);
-        }
+        Outcome::Fault { number } => print!(rt; "fault {number}")?,
     }
-    io::write_all(STDOUT_FILENO, b"\n");
+    println!(rt)
 }
 
-fn main() {
-    let mut rows = io::large_buffer();
-    let n = io::read_full(STDIN_FILENO, &mut rows);
-    let all: &[u8] = &rows;
-    let mut at: usize = 0;
-    while at + 11 <= n {
-        row(&all[at..n]);
-        at += 11;
+fn main(rt: HostRuntime) -> io::Result<()> {
+    let mut rows = Vec::new(rt.alloc());
+    rt.reader().take(MOST).read_to_end(&mut rows)?;
+    for s in rows.chunks_exact(11) {
+        row(&rt, s)?;
     }
+    Ok(())
 }
