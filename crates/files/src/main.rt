@@ -1,58 +1,54 @@
 #![tactic(auto)]
 
 // Network files checked and rule bodies looked up: reads rows (0 for a check or 1 for a body, box, rule, a length of two bytes, that many bytes of a file), prints each answer on a line.
-use libc::{STDIN_FILENO, STDOUT_FILENO};
 use model::{CheckAnswer, ProcessId, RuleId};
+use std::io;
+use std::io::Read;
+
+// The most bytes of rows that are read; what follows them is left out.
+const MOST: u64 = 65536;
 
 // Whether the file is accepted, else the refusal's number and place.
-fn print_check(net: &[u8]) {
+fn print_check(rt: &impl Print, net: &[u8]) -> io::Result<()> {
     match network::check(net) {
-        CheckAnswer::Accepted => {
-            io::write_all(STDOUT_FILENO, b"ok");
-        }
+        CheckAnswer::Accepted => print!(rt; "ok"),
         CheckAnswer::Refused { refusal } => {
-            io::write_all(STDOUT_FILENO, b"refused ");
-            io::print_decimal(STDOUT_FILENO, refusal.number as u64);
-            io::write_all(STDOUT_FILENO, b" ");
-            io::print_decimal(STDOUT_FILENO, refusal.place as u64);
+            print!(rt; "refused {} {}", refusal.number, refusal.place)
         }
     }
 }
 
 // The bytes of a rule's body.
-fn print_body(net: &[u8], b: ProcessId, r: RuleId) {
-    let body = network::rule_body(net, b, r);
-    let n = body.len();
-    io::write_all(STDOUT_FILENO, b"body");
-    let mut i: usize = 0;
-    while i < n {
-        io::write_all(STDOUT_FILENO, b" ");
-        io::print_decimal(STDOUT_FILENO, octets::wide(octets::byte_at(body, i)) as u64);
-        i += 1;
+fn print_body(rt: &impl Print, net: &[u8], b: ProcessId, r: RuleId) -> io::Result<()> {
+    print!(rt; "body")?;
+    for byte in network::rule_body(net, b, r) {
+        print!(rt; " {byte}")?;
     }
+    Ok(())
 }
 
 // One row, without its length.
-fn row(what: u8, b: u8, r: u8, net: &[u8]) {
+fn row(rt: &impl Print, what: u8, b: u8, r: u8, net: &[u8]) -> io::Result<()> {
     if what == 0 {
-        print_check(net);
+        print_check(rt, net)?;
     } else {
-        print_body(net, ProcessId(b), RuleId(r));
+        print_body(rt, net, ProcessId(b), RuleId(r))?;
     }
-    io::write_all(STDOUT_FILENO, b"\n");
+    println!(rt)
 }
 
-fn main() {
-    let mut rows = io::large_buffer();
-    let n = io::read_full(STDIN_FILENO, &mut rows);
-    let all: &[u8] = &rows;
-    let mut at: usize = 0;
-    while at + 5 <= n {
-        let end = at + 5 + octets::two_at(all, at + 3);
-        if n < end {
-            return;
+// A row that the input's end cuts short is left out.
+fn main(rt: HostRuntime) -> io::Result<()> {
+    let mut rows = Vec::new(rt.alloc());
+    rt.reader().take(MOST).read_to_end(&mut rows)?;
+    let mut rest: &[u8] = &rows;
+    while rest.len() >= 5 {
+        let end = 5 + octets::two_at(rest, 3);
+        if rest.len() < end {
+            break;
         }
-        row(all[at], all[at + 1], all[at + 2], &all[at + 5..end]);
-        at = end;
+        row(&rt, rest[0], rest[1], rest[2], &rest[5..end])?;
+        rest = &rest[end..];
     }
+    Ok(())
 }
