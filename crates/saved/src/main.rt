@@ -2,22 +2,22 @@
 
 // Loads, output files and checks of saved states. Reads rows, made from outside vectors: 0 for a load, 1 for writing outputs or 2 for a saved state; the byte that fills the lent buffer; two-byte
 // lengths of network file, token file, state and lent buffer; the bytes of the first three. Prints each answer on a line, for a lent buffer with a checksum of its bytes afterwards.
-use libc::{STDIN_FILENO, STDOUT_FILENO};
 use model::{LoadAnswer, Refusal, WriteAnswer};
 use opening::Opened;
+use std::io;
+use std::io::Read;
+
+// The most bytes that the files of a row may have.
+const ROOM: usize = 65536;
 
 // The refusal's number and place.
-fn print_refusal(r: Refusal) {
-    io::write_all(STDOUT_FILENO, b"refused ");
-    io::print_decimal(STDOUT_FILENO, octets::wide(r.number) as u64);
-    io::write_all(STDOUT_FILENO, b" ");
-    io::print_decimal(STDOUT_FILENO, r.place as u64);
+fn print_refusal(rt: &impl Print, r: Refusal) -> io::Result<()> {
+    print!(rt; "refused {} {}", r.number, r.place)
 }
 
 // A good answer's size.
-fn print_size(size: usize) {
-    io::write_all(STDOUT_FILENO, b"ok ");
-    io::print_decimal(STDOUT_FILENO, size as u64);
+fn print_size(rt: &impl Print, size: usize) -> io::Result<()> {
+    print!(rt; "ok {size}")
 }
 
 // Each byte of a buffer set.
@@ -42,97 +42,102 @@ fn sum(s: &[u8]) -> usize {
 }
 
 // The checksum of a lent buffer.
-fn print_sum(s: &[u8]) {
-    io::write_all(STDOUT_FILENO, b" sum ");
-    io::print_decimal(STDOUT_FILENO, sum(s) as u64);
+fn print_sum(rt: &impl Print, s: &[u8]) -> io::Result<()> {
+    print!(rt; " sum {}", sum(s))
 }
 
 // A load's answer, and the lent state.
-fn print_load(net: &[u8], tokens: &[u8], state: &mut [u8]) {
+fn print_load(rt: &impl Print, net: &[u8], tokens: &[u8], state: &mut [u8]) -> io::Result<()> {
     match bench::load(net, tokens, state) {
-        LoadAnswer::Loaded { size } => print_size(size),
-        LoadAnswer::Refused { refusal } => print_refusal(refusal),
+        LoadAnswer::Loaded { size } => print_size(rt, size)?,
+        LoadAnswer::Refused { refusal } => print_refusal(rt, refusal)?,
     }
-    print_sum(&state[..]);
+    print_sum(rt, state)
 }
 
 // The answer of writing outputs, and the lent output buffer.
-fn print_write(net: &[u8], state: &[u8], out: &mut [u8]) {
+fn print_write(rt: &impl Print, net: &[u8], state: &[u8], out: &mut [u8]) -> io::Result<()> {
     match bench::write_outputs(net, state, out) {
-        WriteAnswer::Written { size } => print_size(size),
-        WriteAnswer::Refused { refusal } => print_refusal(refusal),
+        WriteAnswer::Written { size } => print_size(rt, size)?,
+        WriteAnswer::Refused { refusal } => print_refusal(rt, refusal)?,
     }
-    print_sum(&out[..]);
+    print_sum(rt, out)
 }
 
 // Whether a saved state is taken, with its files.
-fn print_held(net: &[u8], tokens: &[u8], state: &[u8]) {
+fn print_held(rt: &impl Print, net: &[u8], tokens: &[u8], state: &[u8]) -> io::Result<()> {
     let mut table = [0u16; 656];
     let mut starts = [0u16; 113];
     let mut fields = [0u16; 8];
     match opening::open_state(net, tokens, &mut table, &mut starts, &mut fields, state) {
-        Opened::Good { .. } => {
-            io::write_all(STDOUT_FILENO, b"held");
-        }
-        Opened::Refused { refusal } => print_refusal(refusal),
+        Opened::Good { .. } => print!(rt; "held"),
+        Opened::Refused { refusal } => print_refusal(rt, refusal),
     }
 }
 
 // One row's answer.
-fn answer(what: u8, byte: u8, net: &[u8], tokens: &[u8], state: &[u8], lent: &mut [u8]) {
+fn answer(
+    rt: &impl Print,
+    what: u8,
+    byte: u8,
+    net: &[u8],
+    tokens: &[u8],
+    state: &[u8],
+    lent: &mut [u8],
+) -> io::Result<()> {
     if what == 2 {
-        print_held(net, tokens, state);
-        return;
+        return print_held(rt, net, tokens, state);
     }
     fill(lent, byte);
     if what == 1 {
-        print_write(net, state, lent);
-        return;
+        return print_write(rt, net, state, lent);
     }
-    print_load(net, tokens, lent);
+    print_load(rt, net, tokens, lent)
+}
+
+// The next `count` bytes of the input, or those that are left where they are fewer.
+fn read_bytes(rt: &(impl Input + AllocGlobal), count: usize) -> io::Result<Vec<u8>> {
+    let mut bytes = Vec::new(rt.alloc());
+    rt.reader().take(count as u64).read_to_end(&mut bytes)?;
+    Ok(bytes)
 }
 
 // Reads a row and answers it; false at the end of the rows.
-fn row() -> bool {
-    let mut head = [0u8; 10];
-    if io::read_full(STDIN_FILENO, &mut head) != 10 {
-        return false;
+fn row(rt: &(impl Input + Print + AllocGlobal)) -> io::Result<bool> {
+    let head = read_bytes(rt, 10)?;
+    if head.len() != 10 {
+        return Ok(false);
     }
-    let h: &[u8] = &head;
-    let a = octets::two_at(h, 2);
-    let b = a + octets::two_at(h, 4);
-    let e = b + octets::two_at(h, 6);
-    if 65536 < e {
-        return false;
+    let a = octets::two_at(&head, 2);
+    let b = a + octets::two_at(&head, 4);
+    let e = b + octets::two_at(&head, 6);
+    if ROOM < e {
+        return Ok(false);
     }
-    let mut files = io::large_buffer();
-    let mut lent = io::large_buffer();
-    let room: &mut [u8] = &mut files;
-    if io::read_full(STDIN_FILENO, &mut room[0..e]) != e {
-        return false;
+    let files = read_bytes(rt, e)?;
+    if files.len() != e {
+        return Ok(false);
     }
-    let all = &room[..];
-    let out: &mut [u8] = &mut lent;
-    let n = octets::two_at(h, 8);
+    let mut lent = vec![in rt.alloc(); 0u8; octets::two_at(&head, 8)]?;
     answer(
-        h[0],
-        h[1],
-        &all[0..a],
-        &all[a..b],
-        &all[b..e],
-        &mut out[0..n],
-    );
-    io::write_all(STDOUT_FILENO, b"\n");
-    true
+        rt,
+        head[0],
+        head[1],
+        &files[..a],
+        &files[a..b],
+        &files[b..],
+        &mut lent,
+    )?;
+    println!(rt)?;
+    Ok(true)
 }
 
 // At most 255 rows.
-fn main() {
-    let mut left: usize = 255;
-    while 0 < left {
-        if !row() {
-            return;
+fn main(rt: HostRuntime) -> io::Result<()> {
+    for _ in 0..255 {
+        if !row(&rt)? {
+            break;
         }
-        left -= 1;
     }
+    Ok(())
 }
