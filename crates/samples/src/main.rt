@@ -1,40 +1,47 @@
 #![tactic(auto)]
 
 // The networks of the examples, run. Reads rows (examples/limits.py --rows makes them): two-byte lengths of a network file and a token file, then both. Prints for each what the run program prints.
-use libc::{STDIN_FILENO, STDOUT_FILENO};
+use std::io;
+use std::io::Read;
+
+// The most bytes that the files of a row may have.
+const ROOM: usize = 65536;
+
+// The next `count` bytes of the input, or those that are left where they are fewer.
+fn read_bytes(rt: &(impl Input + AllocGlobal), count: usize) -> io::Result<Vec<u8>> {
+    let mut bytes = Vec::new(rt.alloc());
+    rt.reader().take(count as u64).read_to_end(&mut bytes)?;
+    Ok(bytes)
+}
 
 // Reads a row and prints its text; false at the end of the rows.
-fn row() -> bool {
-    let mut head = [0u8; 4];
-    if io::read_full(STDIN_FILENO, &mut head) != 4 {
-        return false;
+fn row(rt: &(impl Input + Print + AllocGlobal)) -> io::Result<bool> {
+    let head = read_bytes(rt, 4)?;
+    if head.len() != 4 {
+        return Ok(false);
     }
-    let h: &[u8] = &head;
-    let a = octets::two_at(h, 0);
-    let e = a + octets::two_at(h, 2);
-    if 65536 < e {
-        return false;
+    let a = octets::two_at(&head, 0);
+    let e = a + octets::two_at(&head, 2);
+    if ROOM < e {
+        return Ok(false);
     }
-    let mut files = io::large_buffer();
-    let room: &mut [u8] = &mut files;
-    if io::read_full(STDIN_FILENO, &mut room[0..e]) != e {
-        return false;
+    let files = read_bytes(rt, e)?;
+    if files.len() != e {
+        return Ok(false);
     }
     let mut state = [0u8; 61088];
     let mut text = [0u8; 184275];
-    let all = &room[..];
-    let end = running::run_text(&all[0..a], &all[a..e], &mut state, &mut text);
-    io::write_all(STDOUT_FILENO, &text[0..end]);
-    true
+    let end = running::run_text(&files[..a], &files[a..], &mut state, &mut text);
+    rt.write_all(&text[..end])?;
+    Ok(true)
 }
 
 // At most 255 rows.
-fn main() {
-    let mut left: usize = 255;
-    while 0 < left {
-        if !row() {
-            return;
+fn main(rt: HostRuntime) -> io::Result<()> {
+    for _ in 0..255 {
+        if !row(&rt)? {
+            break;
         }
-        left -= 1;
     }
+    Ok(())
 }
