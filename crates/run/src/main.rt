@@ -3,27 +3,42 @@
 // The run program: reads network.bin and tokens.bin, loads, runs with budget 1,000, and prints the outcome and what each output got, or the refusal.
 ghost use Rattle.std.specs.Prelude.{◌≤◌, length};
 
-use libc::STDOUT_FILENO;
+use std::io::Read;
+use std::rt::Files;
+use std::{fs, io};
 
-// The bytes of a file, as many as there is room for, at the buffer's start; none for a file that can't be opened. Answers how many.
-fn read_file(path: &[u8], buf: &mut [u8]) -> usize
+// Reads until the buffer is full, the file ends or a read fails. Answers how many bytes stand at the buffer's start.
+fn read_full(file: &mut impl Read, buf: &mut [u8]) -> usize
     ensures { result ≤ length buf.new }
 {
-    let fd = os::open_read(path);
-    if fd < 0 {
-        return 0;
+    let mut count = 0;
+    while count < buf.len() {
+        match file.read(&mut buf[count..]) {
+            Ok(0) | Err(_) => break,
+            Ok(n) => count += n,
+        }
     }
-    io::read_full(fd, buf)
+    count
+}
+
+// The bytes of a file, as many as there is room for, at the buffer's start; none for a file that can't be opened. Answers how many.
+fn read_file(rt: &impl Files, path: &str, buf: &mut [u8]) -> usize
+    ensures { result ≤ length buf.new }
+{
+    match fs::open(rt, path) {
+        Ok(mut file) => read_full(&mut file, buf),
+        Err(_) => 0,
+    }
 }
 
 // A byte more than a file may have is read, so that a longer file is refused. The buffers hold the largest state and the longest text.
-fn main() {
+fn main(rt: HostRuntime) -> io::Result<()> {
     let mut net = [0u8; 16385];
     let mut tokens = [0u8; 16385];
     let mut state = [0u8; 61088];
     let mut text = [0u8; 184275];
-    let n = read_file(b"network.bin", &mut net);
-    let m = read_file(b"tokens.bin", &mut tokens);
+    let n = read_file(&rt, "network.bin", &mut net);
+    let m = read_file(&rt, "tokens.bin", &mut tokens);
     let end = running::run_text(&net[0..n], &tokens[0..m], &mut state, &mut text);
-    io::write_all(STDOUT_FILENO, &text[0..end]);
+    rt.write_all(&text[0..end])
 }
