@@ -38,17 +38,16 @@ loop-k-smaller c = omega (arith, c.loop-k-test.true)
 
 pub loop-k-preserved : goal.loop-k-preserved
 loop-k-preserved c =
-    let start = c in
-    let a = start.args in
+    let a = c.args in
     let l = c.loop-k in
     let less = c.loop-k-test.true in
     let line = c.output_line-end in
     let first = a.c.boxes + a.c.inputs in
     let more : l.k + 1 - first ≡ l.k - first + 1 = omega (arith, l.invariant.0) in (
       omega (arith, l.invariant.0),
-      line.auto.0 ∙ l.invariant.1,
+      line.auto.buf ∙ l.invariant.1,
       ap (λ (j : ℕ). laid (lines_from (net_in a.net.now a.table.now a.c a.tokens.now) (state_of a.net.now a.table.now a.c a.tokens.now a.state.now) j (l.k + 1)) (page line.result line.new.buf)) more
-          ∙ lines_next a.net.now a.table.now a.starts.now a.tokens.now a.state.now a.c start.requires l.k l.invariant.0 less (l.k - first) _ (page l.end l.buf) c.own_part-part.ensures line.ensures
+          ∙ lines_next a.net.now a.table.now a.starts.now a.tokens.now a.state.now a.c c.requires l.k l.invariant.0 less (l.k - first) _ (page l.end l.buf) c.own_part-part.ensures line.ensures
           ∙ l.invariant.2,
     )
 
@@ -57,8 +56,7 @@ shape_of-buf c = c.loop-k.invariant.1
 
 pub returns : goal.returns
 returns c =
-    let start = c in
-    let a = start.args in
+    let a = c.args in
     let l = c.loop-k in
-    let none = ap (λ (x : List ℕ). laid x (page l.end l.buf)) (lines_done a.net.now a.table.now a.starts.now a.tokens.now a.state.now a.c start.requires (l.k - (a.c.boxes + a.c.inputs)) l.k c.loop-k-test.false) in
-    as_said _ (sym (lines_all a.net.now a.table.now a.starts.now a.tokens.now a.state.now a.c start.requires)) (laid_none (page l.end l.buf) ∙ sym none ∙ l.invariant.2)
+    let none = ap (λ (x : List ℕ). laid x (page l.end l.buf)) (lines_done a.net.now a.table.now a.starts.now a.tokens.now a.state.now a.c c.requires (l.k - (a.c.boxes + a.c.inputs)) l.k c.loop-k-test.false) in
+    as_said _ (sym (lines_all a.net.now a.table.now a.starts.now a.tokens.now a.state.now a.c c.requires)) (laid_none (page l.end l.buf) ∙ sym none ∙ l.invariant.2)

@@ -3,12 +3,7 @@ use mathlib.Core.Path.{sym, ap, ◌∙◌}
 use mathlib.Core.List.{◌∷◌}
 use Rattle.model.specs.Printing.{decimal, box_part}
 use Rattle.printing.proofs.Pages.{then, as_said, laid_none}
-use borrow.Author.Rules.{rules}
 use Rattle.printing.proofs.put_box.Goals as goal
-
--- LEFT need slice-aggregate-put-text
--- slice-aggregate-put-text : tie.Need-slice-aggregate-put-text
--- slice-aggregate-put-text c = search rules
 
 pub returns-in-Idle : goal.returns-in-Idle
 unfolding box_part

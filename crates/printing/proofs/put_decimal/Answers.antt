@@ -2,12 +2,11 @@ use Prim.Native.Nat.{◌<◌, ◌+◌, ◌%◌}
 use mathlib.Core.Path.{refl, ◌∙◌}
 use native.Mathlib.Omega.{arith}
 use lib.ListN.{length-set}
-use mathlib.Core.Logic.{⊎_elim}
-use borrow.Author.Tests.{leb-true, leb-false}
 use Rattle.model.specs.Printing.{decimal}
 use Rattle.printing.proofs.Pages.{as_said}
 use Rattle.printing.proofs.Numbers.{digits_turn, digits_done}
 use Rattle.printing.proofs.put_decimal.Goals as goal
+use Rattle.printing.proofs.put_decimal.Goals.{then-loop-first-test+else-n-ge10, else-loop-first-test}
 
 pub loop-first-init : goal.loop-first-init
 loop-first-init c = (omega arith, refl, unfold decimal in refl)
@@ -15,7 +14,7 @@ loop-first-init c = (omega arith, refl, unfold decimal in refl)
 pub loop-first-preserved : goal.loop-first-preserved
 loop-first-preserved c =
     let l = c.loop-first in
-    let more = leb-true 10 l.n c.if-n-ge10.true-raw in
+    let more = c.if-n-ge10.true in
     (omega arith, length-set l.digits l.first _ ∙ l.invariant.1, digits_turn l.digits l.first l.n _ (omega (arith, l.invariant.0, l.invariant.1)) c.loop-first-test.true more refl ∙ l.invariant.2)
 
 pub slice_bounds-put_text-end : goal.slice_bounds-put_text-end
@@ -26,5 +25,8 @@ slice_bounds-put_text-end c =
 pub returns : goal.returns
 returns c =
     let l = c.loop-first in
-    let few : 0 < l.first → l.n < 10 = ⊎_elim (λ w z. leb-false 10 l.n w.1.left) (λ w z. absurd (omega (arith, w.left, z))) c.loop-first-test.branch in
+    let few : 0 < l.first → l.n < 10 = elim c.loop-first-test.branch [
+      | then-loop-first-test+else-n-ge10 w ↦ λ h. w.if-n-ge10.false
+      | else-loop-first-test w ↦ λ h. absurd (omega (arith, w.loop-first-test.false, h))
+    ] in
     as_said _ (digits_done l.digits l.first l.n _ _ l.invariant.1 l.invariant.0 few refl l.invariant.2) c.put_text.ensures

@@ -18,7 +18,7 @@ loop-i-preserved c =
     let less = c.loop-i-test.true in
     let byte = c.put_byte-end in
     let token = c.put_token-end in
-    (omega (arith, less), l.invariant.1, token.auto.0 ∙ byte.auto.0 ∙ l.invariant.2, spaced_turn c.args.part.now c.two_at-count.result l.i _ (page l.end l.buf) less c.token_at.ensures.0 byte.ensures token.ensures ∙ l.invariant.3)
+    (omega (arith, less), l.invariant.1, token.auto.buf ∙ byte.auto.buf ∙ l.invariant.2, spaced_turn c.args.part.now c.two_at-count.result l.i _ (page l.end l.buf) less c.token_at.ensures.0 byte.ensures token.ensures ∙ l.invariant.3)
 
 pub returns : goal.returns
 returns c =

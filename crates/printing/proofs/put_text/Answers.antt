@@ -9,14 +9,12 @@ loop-i-init c = (omega arith, refl, refl)
 
 pub loop-i-preserved : goal.loop-i-preserved
 loop-i-preserved c =
-    let start = c in
     let l = c.loop-i in
     let w = c.put_byte-end in
     let less = c.loop-i-test.true in
-    (omega (arith, less), w.auto.0 ∙ l.invariant.1, text_turn start.args.text.now l.i (page l.end l.buf) less w.ensures ∙ l.invariant.2)
+    (omega (arith, less), w.auto.buf ∙ l.invariant.1, text_turn c.args.text.now l.i (page l.end l.buf) less w.ensures ∙ l.invariant.2)
 
 pub returns : goal.returns
 returns c =
-    let start = c in
     let l = c.loop-i in
-    sym (text_done start.args.text.now l.i (page l.end l.buf) c.loop-i-test.false) ∙ l.invariant.2
+    sym (text_done c.args.text.now l.i (page l.end l.buf) c.loop-i-test.false) ∙ l.invariant.2

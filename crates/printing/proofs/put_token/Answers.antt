@@ -1,4 +1,3 @@
-use borrow.Author.Rules.{rules}
 use Rattle.printing.proofs.Pages.{then, as_said}
 use Rattle.printing.proofs.Numbers.{shown_plain, shown_start, shown_end, shown_data}
 use Rattle.printing.proofs.put_token.Goals as goal
@@ -6,16 +5,8 @@ use Rattle.printing.proofs.put_token.Goals as goal
 pub returns-then-tag-eq0 : goal.returns-then-tag-eq0
 returns-then-tag-eq0 c = as_said _ (shown_plain c.args.t c.requires c.if-tag-eq0.true) c.put_signed.ensures
 
--- LEFT need slice-aggregate-put-text
--- slice-aggregate-put-text : tie.Need-slice-aggregate-put-text
--- slice-aggregate-put-text c = search rules
-
 pub returns-then-tag-eq1 : goal.returns-then-tag-eq1
 returns-then-tag-eq1 c = as_said _ (shown_start c.args.t c.if-tag-eq1.true) c.put_text.ensures
-
--- LEFT need slice-aggregate-put-text-2
--- slice-aggregate-put-text-2 : tie.Need-slice-aggregate-put-text-2
--- slice-aggregate-put-text-2 c = search rules
 
 pub returns-then-tag-eq2 : goal.returns-then-tag-eq2
 returns-then-tag-eq2 c = as_said _ (shown_end c.args.t c.if-tag-eq2.true) c.put_text-then-tag-eq2.ensures

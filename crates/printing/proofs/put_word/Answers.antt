@@ -1,20 +1,7 @@
 use mathlib.Core.Path.{sym, ap}
 use Rattle.model.specs.Printing.{ending_word}
 use Rattle.printing.proofs.Pages.{as_said}
-use borrow.Author.Rules.{rules}
 use Rattle.printing.proofs.put_word.Goals as goal
-
--- LEFT need slice-aggregate-put-text
--- slice-aggregate-put-text : tie.Need-slice-aggregate-put-text
--- slice-aggregate-put-text c = search rules
-
--- LEFT need slice-aggregate-put-text-2
--- slice-aggregate-put-text-2 : tie.Need-slice-aggregate-put-text-2
--- slice-aggregate-put-text-2 c = search rules
-
--- LEFT need slice-aggregate-put-text-3
--- slice-aggregate-put-text-3 : tie.Need-slice-aggregate-put-text-3
--- slice-aggregate-put-text-3 c = search rules
 
 pub returns-in-Idle : goal.returns-in-Idle
 unfolding ending_word
