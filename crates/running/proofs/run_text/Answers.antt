@@ -4,16 +4,14 @@ use Rattle.running.proofs.run_text.Goals as goal
 
 pub returns-in_default : goal.returns-in_default
 returns-in_default c =
-    let start = c in
     let load = c.load in
     let run = c.run-answer in
-    let h : Answers start.args.net.now start.args.tokens.now start.args.state.now _ _ _ run.result = record { long = start.requires.in_bounds; load = load.ensures; run = run.ensures.0; begun = run.ensures.1 } in
-    text_is _ _ _ _ _ start.requires.in_bounds_2 (as_said _ (refused_text _ _ _ _ _ _ _ h _ _ c.in_default.is c.refusal_of.ensures) c.refused_line.ensures)
+    let h : Answers c.args.net.now c.args.tokens.now c.args.state.now _ _ _ run.result = record { long = c.requires.in_bounds; load = load.ensures; run = run.ensures.0; begun = run.ensures.1 } in
+    text_is _ _ _ _ _ c.requires.in_bounds_2 (as_said _ (refused_text _ _ _ _ _ _ _ h _ _ c.in_default.is c.refusal_of.ensures) c.refused_line.ensures)
 
 pub returns : goal.returns
 returns c =
-    let start = c in
     let load = c.load in
     let run = c.run-answer in
-    let h : Answers start.args.net.now start.args.tokens.now start.args.state.now _ _ _ run.result = record { long = start.requires.in_bounds; load = load.ensures; run = run.ensures.0; begun = run.ensures.1 } in
-    text_is _ _ _ _ _ start.requires.in_bounds_2 (as_said _ (says_ended _ _ _ _ _ _ _ h _ _ c.in-Ended.is) (then _ _ _ c.outcome_line-end.ensures c.state_lines.ensures))
+    let h : Answers c.args.net.now c.args.tokens.now c.args.state.now _ _ _ run.result = record { long = c.requires.in_bounds; load = load.ensures; run = run.ensures.0; begun = run.ensures.1 } in
+    text_is _ _ _ _ _ c.requires.in_bounds_2 (as_said _ (says_ended _ _ _ _ _ _ _ h _ _ c.in-Ended.is) (then _ _ _ c.outcome_line-end.ensures c.state_lines.ensures))
