@@ -7,15 +7,13 @@ use Rattle.bench_c.proofs.body.Goals as goal
 
 pub returns-in_default : goal.returns-in_default
 returns-in_default c =
-    let k = c in
-    let a = k.args in
-    stands c.stretch.ensures (bad-network a.net.now k.checked.new.tab k.checked.result a.b a.r _ _ c.in_default.is k.checked.ensures.result_after)
+    let a = c.args in
+    stands c.stretch.ensures (bad-network a.net.now c.checked.new.tab c.checked.result a.b a.r _ _ c.in_default.is c.checked.ensures.result_after)
 
 pub body_in-requires : goal.body_in-requires
 body_in-requires c =
-    let k = c in
-    let long : 656 ≤ length k.checked.new.tab = search rules in
-    tabled k.args.net.now k.checked.new.tab k.checked.result _ long c.in-Good.is k.checked.ensures.result_after k.checked.ensures.fit
+    let long : 656 ≤ length c.checked.new.tab = search rules in
+    tabled c.args.net.now c.checked.new.tab c.checked.result _ long c.in-Good.is c.checked.ensures.result_after c.checked.ensures.fit
 
 pub returns : goal.returns
 returns c = c.body_in.ensures

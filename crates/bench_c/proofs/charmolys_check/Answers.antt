@@ -6,6 +6,4 @@ use Rattle.bench_c.proofs.charmolys_check.Goals as goal
 pub returns : goal.returns
 unfolding says_only
 returns c =
-    let l = c in
-    let k = l in
-    heard-only _ _ _ _ l.lay.ensures (k.of_check.ensures ∙ ap numbers_of k.check.ensures)
+    heard-only _ _ _ _ c.lay.ensures (c.of_check.ensures ∙ ap numbers_of c.check.ensures)

@@ -5,5 +5,4 @@ use Rattle.bench_c.proofs.charmolys_rule_body.Goals as goal
 pub returns : goal.returns
 unfolding says_body
 returns c =
-    let l = c in
-    heard-only _ _ _ _ l.lay.ensures l.body.ensures
+    heard-only _ _ _ _ c.lay.ensures c.body.ensures

@@ -3,6 +3,4 @@ use Rattle.bench_c.proofs.charmolys_write_outputs.Goals as goal
 
 pub returns : goal.returns
 returns c =
-    let l = c in
-    let k = l in
-    heard-after _ _ _ _ l.lay.ensures _ _ k.of_write.ensures k.write_outputs.ensures
+    heard-after _ _ _ _ c.lay.ensures _ _ c.of_write.ensures c.write_outputs.ensures

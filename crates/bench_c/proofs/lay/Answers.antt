@@ -4,8 +4,4 @@ use Rattle.bench_c.proofs.lay.Goals as goal
 
 pub returns : goal.returns
 returns c =
-    let d = c in
-    let e = d in
-    let f = e in
-    let g = f in
-    (refl, four_laid _ _ _ _ _ _ g.put.ensures f.put-2.ensures e.put-3.ensures d.put-4.ensures)
+    (refl, four_laid _ _ _ _ _ _ c.put.ensures c.put-2.ensures c.put-3.ensures c.put-4.ensures)

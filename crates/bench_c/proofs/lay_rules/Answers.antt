@@ -9,9 +9,7 @@ loop-i-init c = (omega arith, refl, refl, refl)
 pub loop-i-preserved : goal.loop-i-preserved
 loop-i-preserved c =
     let l = c.loop-i in
-    let p = c in
-    let w = p in
-    (omega arith, refl, p.put.auto.answer ∙ l.invariant.2, laid_next _ l.i l.answer _ _ _ (omega arith) (w.wide.ensures ∙ w.byte_at.ensures) p.put.ensures l.invariant.3)
+    (omega arith, refl, c.put.auto.answer ∙ l.invariant.2, laid_next _ l.i l.answer _ _ _ (omega arith) (c.wide.ensures ∙ c.byte_at.ensures) c.put.ensures l.invariant.3)
 
 pub shape_of-answer : goal.shape_of-answer
 shape_of-answer c = c.loop-i.invariant.2
