@@ -1,6 +1,6 @@
 /*
- * Charmolys for C: the seven calls of the bench, in the archive that `rt staticlib bench_c` makes
- * (target/staticlib/libbench_c.a, for x86-64 Linux). It keeps nothing between calls and asks for no memory, so calls on
+ * Charmolys for C: the seven calls of the bench, in the archive that `rt lib` makes in crates/bench_c
+ * (out/libbench_c.a there, for x86-64 Linux). It keeps nothing between calls and asks for no memory, so calls on
  * different memory may run at the same time. Of the C library it needs memmove and memset and nothing else. A call takes
  * less than 8 KB of stack, whatever it is given (`make -C compare stack` works that out from the archive).
  *

@@ -2,7 +2,7 @@
 -- Assumes nothing.
 use mathlib.Core.Path.{◌≡◌, refl, sym, ap, ◌∙◌}
 use mathlib.Core.Bool.{cond}
-use mathlib.Core.List.{List, [], ◌∷◌, ◌++◌}
+use mathlib.Core.List.{List, []}
 use Prim.Native.Nat.{ℕ, suc, ◌+◌, ◌≤◌, ◌<◌}
 use native.Mathlib.Omega.{arith}
 use native.Mathlib.Decide.{dec_lt}
@@ -12,7 +12,7 @@ use lib.Seq.{drop-cons}
 use borrow.Author.Tests.{le-leb, lt-leb}
 use Rattle.model.specs.declared.Refusal.{Refusal}
 use Rattle.model.specs.declared.Ending.{Ending}
-use Rattle.model.specs.NetworkFile.{Stretch, or_refuse, by_verdict}
+use Rattle.model.specs.NetworkFile.{or_refuse, by_verdict}
 use Rattle.model.specs.Calls.{Answer, refused, refusal, said_ending, After, Marking, run_call}
 use Rattle.bench.specs.Afters.{after}
 use Rattle.bench_c.specs.declared.Numbers.{Numbers}

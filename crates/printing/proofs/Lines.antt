@@ -13,7 +13,7 @@ use Rattle.model.specs.declared.Ty.{Ty}
 use Rattle.model.specs.declared.Refusal.{Refusal}
 use Rattle.model.specs.declared.Token.{Token}
 use Rattle.model.specs.Bytes.{two_at, two_bytes, four_bytes, value_bytes}
-use Rattle.model.specs.Network.{Proc, box, input, output, Net, Own, vars, got, State, wire, proc, own, got_of, nobody}
+use Rattle.model.specs.Network.{Proc, box, input, output, Net, Own, vars, State, wire, proc, own, got_of, nobody}
 use Rattle.model.specs.NetworkFile.{Index, input_at, output_at, refuse, next, by_verdict}
 use Rattle.model.specs.States.{token_at, read_tokens, tokens_bytes, token_bytes, token_fits, tokens_fit, room_bytes, own_bytes}
 use Rattle.model.specs.Calls.{with_tokens, held}
@@ -30,7 +30,7 @@ use Rattle.places.specs.Standing.{tokens_of, net_in, Standing, state_of}
 use Rattle.places.proofs.Standing.{net_all, state_good}
 use Rattle.opening.specs.Opening.{OpenState}
 use Rattle.opening.proofs.Laws.{whole_held}
-use Rattle.printing.specs.Pages.{Page, page, laid}
+use Rattle.printing.specs.Pages.{Page, laid}
 use Rattle.printing.specs.Lines.{lines_in}
 use Rattle.printing.proofs.Pages.{then, as_said}
 

@@ -1,5 +1,4 @@
 use native.Mathlib.Omega.{arith}
-use borrow.Author.Rules.{rules}
 use Rattle.network.proofs.Bodies.{no_box, no_rule_lem}
 use Rattle.bench_c.proofs.Places.{stands, few_rules, known_at}
 use Rattle.bench_c.proofs.body_in.Goals as goal
