@@ -1,12 +1,7 @@
 use native.Mathlib.Omega.{arith}
 use Rattle.model.specs.Calls.{said_write, refusal}
 use Rattle.bench.proofs.Writes.{not_known, not_held, saved, out_short, wrote}
-use borrow.Author.Rules.{rules}
 use Rattle.bench.proofs.write_in.Goals as goal
-
--- LEFT need slice-aggregate-held-2
--- slice-aggregate-held-2 : tie.Need-slice-aggregate-held-2
--- slice-aggregate-held-2 c = search rules
 
 pub held-h-requires : goal.held-h-requires
 held-h-requires c =
