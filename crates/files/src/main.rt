@@ -2,11 +2,11 @@
 
 // Network files checked and rule bodies looked up: reads rows (0 for a check or 1 for a body, box, rule, a length of two bytes, that many bytes of a file), prints each answer on a line.
 use model::{CheckAnswer, ProcessId, RuleId};
+use reading::read_full;
 use std::io;
-use std::io::Read;
 
 // The most bytes of rows that are read; what follows them is left out.
-const MOST: u64 = 65536;
+const MOST: usize = 65536;
 
 // Whether the file is accepted, else the refusal's number and place.
 fn print_check(rt: &impl Print, net: &[u8]) -> io::Result<()> {
@@ -39,9 +39,9 @@ fn row(rt: &impl Print, what: u8, b: u8, r: u8, net: &[u8]) -> io::Result<()> {
 
 // A row that the input's end cuts short is left out.
 fn main(rt: HostRuntime) -> io::Result<()> {
-    let mut rows = Vec::new(rt.alloc());
-    rt.reader().take(MOST).read_to_end(&mut rows)?;
-    let mut rest: &[u8] = &rows;
+    let mut rows = [0u8; MOST];
+    let n = read_full(&mut rt.reader(), &mut rows);
+    let mut rest = &rows[..n];
     while rest.len() >= 5 {
         let end = 5 + octets::two_at(rest, 3);
         if rest.len() < end {

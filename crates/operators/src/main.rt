@@ -5,11 +5,11 @@ ghost use Rattle.std.specs.Prelude.{◌≤◌, ◌<◌, ◌^◌};
 ghost use Rattle.std.specs.Int.Signed.{mag};
 
 use model::{Outcome, Ty};
+use reading::read_full;
 use std::io;
-use std::io::Read;
 
 // The most bytes of rows that are read; what follows them is left out.
-const MOST: u64 = 65536;
+const MOST: usize = 65536;
 
 // A value in decimal.
 fn print_value(rt: &impl Print, z: i64) -> io::Result<()> {
@@ -57,9 +57,9 @@ fn row(rt: &impl Print, s: &[u8]) -> io::Result<()> {
 }
 
 fn main(rt: HostRuntime) -> io::Result<()> {
-    let mut rows = Vec::new(rt.alloc());
-    rt.reader().take(MOST).read_to_end(&mut rows)?;
-    for s in rows.chunks_exact(11) {
+    let mut rows = [0u8; MOST];
+    let n = read_full(&mut rt.reader(), &mut rows);
+    for s in rows[..n].chunks_exact(11) {
         row(&rt, s)?;
     }
     Ok(())

@@ -3,23 +3,9 @@
 // The run program: reads network.bin and tokens.bin, loads, runs with budget 1,000, and prints the outcome and what each output got, or the refusal.
 ghost use Rattle.std.specs.Prelude.{◌≤◌, length};
 
-use std::io::Read;
+use reading::read_full;
 use std::rt::Files;
 use std::{fs, io};
-
-// Reads until the buffer is full, the file ends or a read fails. Answers how many bytes stand at the buffer's start.
-fn read_full(file: &mut impl Read, buf: &mut [u8]) -> usize
-    ensures { result ≤ length buf.new }
-{
-    let mut count = 0;
-    while count < buf.len() {
-        match file.read(&mut buf[count..]) {
-            Ok(0) | Err(_) => break,
-            Ok(n) => count += n,
-        }
-    }
-    count
-}
 
 // The bytes of a file, as many as there is room for, at the buffer's start; none for a file that can't be opened. Answers how many.
 fn read_file(rt: &impl Files, path: &str, buf: &mut [u8]) -> usize

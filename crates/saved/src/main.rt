@@ -4,6 +4,7 @@
 // lengths of network file, token file, state and lent buffer; the bytes of the first three. Prints each answer on a line, for a lent buffer with a checksum of its bytes afterwards.
 use model::{LoadAnswer, Refusal, WriteAnswer};
 use opening::Opened;
+use reading::read_full;
 use std::io;
 use std::io::Read;
 
@@ -95,17 +96,10 @@ fn answer(
     print_load(rt, net, tokens, lent)
 }
 
-// The next `count` bytes of the input, or those that are left where they are fewer.
-fn read_bytes(rt: &(impl Input + AllocGlobal), count: usize) -> io::Result<Vec<u8>> {
-    let mut bytes = Vec::new(rt.alloc());
-    rt.reader().take(count as u64).read_to_end(&mut bytes)?;
-    Ok(bytes)
-}
-
 // Reads a row and answers it; false at the end of the rows.
-fn row(rt: &(impl Input + Print + AllocGlobal)) -> io::Result<bool> {
-    let head = read_bytes(rt, 10)?;
-    if head.len() != 10 {
+fn row(rt: &impl Print, input: &mut impl Read) -> io::Result<bool> {
+    let mut head = [0u8; 10];
+    if read_full(input, &mut head) != 10 {
         return Ok(false);
     }
     let a = octets::two_at(&head, 2);
@@ -114,11 +108,13 @@ fn row(rt: &(impl Input + Print + AllocGlobal)) -> io::Result<bool> {
     if ROOM < e {
         return Ok(false);
     }
-    let files = read_bytes(rt, e)?;
-    if files.len() != e {
+    let mut room = [0u8; ROOM];
+    if read_full(input, &mut room[..e]) != e {
         return Ok(false);
     }
-    let mut lent = vec![in rt.alloc(); 0u8; octets::two_at(&head, 8)]?;
+    let files = &room[..e];
+    let mut lent = [0u8; ROOM];
+    let n = octets::two_at(&head, 8);
     answer(
         rt,
         head[0],
@@ -126,7 +122,7 @@ fn row(rt: &(impl Input + Print + AllocGlobal)) -> io::Result<bool> {
         &files[..a],
         &files[a..b],
         &files[b..],
-        &mut lent,
+        &mut lent[..n],
     )?;
     println!(rt)?;
     Ok(true)
@@ -134,8 +130,9 @@ fn row(rt: &(impl Input + Print + AllocGlobal)) -> io::Result<bool> {
 
 // At most 255 rows.
 fn main(rt: HostRuntime) -> io::Result<()> {
+    let mut input = rt.reader();
     for _ in 0..255 {
-        if !row(&rt)? {
+        if !row(&rt, &mut input)? {
             break;
         }
     }
