@@ -35,18 +35,12 @@ pub fn order_fits(set: u64, order: &[u8]) -> bool
     ensures { result ≡ is_order set order.now }
 {
     let mut left = set;
-    let mut i: usize = 0;
-    while i < order.len() {
-        let k = order[i];
-        if k >= 64 {
-            return false;
-        }
+    for &k in order {
         let process = ProcessId(k);
-        if !is_marked(left, process) {
+        if k >= 64 || !is_marked(left, process) {
             return false;
         }
         left = without_mark(left, process);
-        i += 1;
     }
     left == 0
 }
