@@ -1,7 +1,7 @@
 -- The limits of an expression from those of its operands, read one after another.
 -- Assumes nothing.
 use mathlib.Core.Path.{◌≡◌, refl, sym, ap, ◌∙◌}
-use mathlib.Core.Bool.{Bool, true, false, not, cond, ◌&&◌}
+use mathlib.Core.Bool.{Bool, true, false, cond, ◌&&◌}
 use mathlib.Core.List.{List, [], ◌∷◌}
 use Prim.Native.Nat.{ℕ, zero, suc, ◌+◌, ◌-◌, ◌≤◌, ◌<◌, max}
 use native.Mathlib.Nat.{le-max_left, le-max_right, max-le}
@@ -10,6 +10,8 @@ use lib.Dec.{leb, eqb, leb-suc-suc}
 use lib.ListN.{get_or, drop, length, length-drop}
 use lib.Seq.{drop-drop}
 use borrow.Author.Tests.{le-leb, lt-leb, leb-true, leb-false, eqb-true, eqb-false, ne_eqb}
+use Rattle.std.specs.Prelude.{Option, Some, None}
+use Rattle.std.specs.Option.{is_some}
 use Rattle.model.specs.Values.{in_precision}
 use Rattle.model.specs.Expressions.{Exp, literal, matched, variable, cast, one, two, if, Read, bad, got, after, read_many, head_size, operands, head_fits, provided, type_at, build, read_exp, expression, depth_of, precise, expression_limits}
 use Rattle.expressions.specs.Reading.{precise_head, shallow, limits_at, limits_read}
@@ -184,75 +186,78 @@ bounded s = bounded_at (length s) s
 
 -- ── the walk over the operands ───────────────────────────────────────────────────────────────
 
-unfoldable pub limits_many : ℕ → ℕ → Read (List Exp) → ℕ
-limits_many at d bad = 0
-limits_many at d (got es n) = cond (all_shallow d es) (at + n) 0
+unfoldable pub limits_many : ℕ → ℕ → Read (List Exp) → Option ℕ
+limits_many at d bad = None
+limits_many at d (got es n) = cond (all_shallow d es) (Some (at + n)) None
 
--- the offset after k expressions from an offset on, 0 where one is malformed or beyond a limit
-unfoldable pub limits_from : ℕ → ℕ → ℕ → List ℕ → ℕ
+-- the offset after k expressions from an offset on, none where one is malformed or beyond a limit
+unfoldable pub limits_from : ℕ → ℕ → ℕ → List ℕ → Option ℕ
 limits_from k d at s = limits_many at d (read_many expression k (drop at s))
 
-cond-zero : (b : Bool) → ◌≡◌ {A = ℕ} (cond b 0 0) 0
-cond-zero true = refl
-cond-zero false = refl
+cond-none : (b : Bool) → ◌≡◌ {A = Option ℕ} (cond b None None) None
+cond-none true = refl
+cond-none false = refl
 
 module _ (d : ℕ) (s : List ℕ) where
-  many_got : (b : Bool) (r : Read (List Exp)) (a : Exp) (at n : ℕ) → shallow d a ≡ b → limits_many at d (joined a n r) ≡ cond b (limits_many (at + n) d r) 0
+  many_got : (b : Bool) (r : Read (List Exp)) (a : Exp) (at n : ℕ) → shallow d a ≡ b → limits_many at d (joined a n r) ≡ cond b (limits_many (at + n) d r) None
   unfolding limits_many after all_shallow
-  many_got b bad a at n e = sym (cond-zero b)
-  many_got true (got es m) a at n e = rw e (ap (λ (k : ℕ). cond (all_shallow d es) k 0) sum)
+  many_got b bad a at n e = sym (cond-none b)
+  many_got true (got es m) a at n e = rw e (ap (λ (k : ℕ). cond (all_shallow d es) (Some k) None) sum)
     where
       sum : at + (n + m) ≡ at + n + m
       sum = omega arith
   many_got false (got es m) a at n e = rw e
 
   -- by what the first of them gives
-  first_bad : (b : Bool) (k at : ℕ) (r : Read Exp) → All (λ e n. (1 ≤ n) × (n ≤ length (drop at s))) r → limits_at at d r ≡ 0 → limits_many at d (others expression k (drop at s) r) ≡ 0
-  unfolding limits_at limits_many after All
-  first_bad b k at bad h e = refl
-  first_bad b k at (got a n) h e = go (shallow d a) refl
+  first_bad : (k at : ℕ) (r : Read Exp) → limits_at at d r ≡ None → limits_many at d (others expression k (drop at s) r) ≡ None
+  unfolding limits_at limits_many after
+  first_bad k at bad e = refl
+  first_bad k at (got a n) e = go (shallow d a) refl
     where
-      go : (b : Bool) → shallow d a ≡ b → limits_many at d (joined a n (read_many expression k (drop n (drop at s)))) ≡ 0
-      go true f = absurd (omega (arith, rw f at e))
+      go : (b : Bool) → shallow d a ≡ b → limits_many at d (joined a n (read_many expression k (drop n (drop at s)))) ≡ None
+      go true f = let z = rw f at e in cc
       go false f = many_got false (read_many expression k (drop n (drop at s))) a at n f
 
-  first_good : (k at m : ℕ) (r : Read Exp) → limits_at at d r ≡ m → (m ≡ 0 → ⊥) → limits_many at d (others expression k (drop at s) r) ≡ limits_from k d m s
+  first_good : (k at m : ℕ) (r : Read Exp) → limits_at at d r ≡ Some m → limits_many at d (others expression k (drop at s) r) ≡ limits_from k d m s
   unfolding limits_at limits_many limits_from after
-  first_good k at m bad e h = absurd (h (sym e))
-  first_good k at m (got a n) e h = go (shallow d a) refl
+  first_good k at m bad e = cc
+  first_good k at m (got a n) e = go (shallow d a) refl
     where
       go : (b : Bool) → shallow d a ≡ b → limits_many at d (joined a n (read_many expression k (drop n (drop at s)))) ≡ limits_from k d m s
-      go true f = let q : at + n ≡ m = rw f at e in many_got true (read_many expression k (drop n (drop at s))) a at n f ∙ rw (drop-drop n at s, q)
-      go false f = absurd (h (sym (rw f at e)))
+      go true f =
+          let z = rw f at e in
+          let q : at + n ≡ m = cc in
+          many_got true (read_many expression k (drop n (drop at s))) a at n f ∙ rw (drop-drop n at s, q)
+      go false f = let z = rw f at e in cc
 
-  pub walk-bad : (k at : ℕ) → 0 < k → limits_at at d (expression (drop at s)) ≡ 0 → limits_from k d at s ≡ 0
+  pub walk-bad : (k at : ℕ) → 0 < k → limits_at at d (expression (drop at s)) ≡ None → limits_from k d at s ≡ None
   unfolding limits_from read_many
   walk-bad zero at l e = absurd (omega arith)
-  walk-bad (suc k) at l e = first_bad true k at (expression (drop at s)) (bounded (drop at s)) e
+  walk-bad (suc k) at l e = first_bad k at (expression (drop at s)) e
 
-  pub walk_good : (k at m : ℕ) → 0 < k → limits_at at d (expression (drop at s)) ≡ m → (m ≡ 0 → ⊥) → limits_from k d at s ≡ limits_from (k - 1) d m s
+  pub walk_good : (k at m : ℕ) → 0 < k → limits_at at d (expression (drop at s)) ≡ Some m → limits_from k d at s ≡ limits_from (k - 1) d m s
   unfolding limits_from read_many
-  walk_good zero at m l e h = absurd (omega arith)
-  walk_good (suc k) at m l e h =
+  walk_good zero at m l e = absurd (omega arith)
+  walk_good (suc k) at m l e =
       let q : k ≡ suc k - 1 = omega arith in
-      first_good k at m (expression (drop at s)) e h ∙ ap (λ (j : ℕ). limits_from j d m s) q
+      first_good k at m (expression (drop at s)) e ∙ ap (λ (j : ℕ). limits_from j d m s) q
 
-  pub walk_done : (k at : ℕ) → k ≤ 0 → limits_from k d at s ≡ at
+  pub walk_done : (k at : ℕ) → k ≤ 0 → limits_from k d at s ≡ Some at
   unfolding limits_from limits_many read_many all_shallow
-  walk_done zero at l = omega arith
+  walk_done zero at l = ap Some (omega arith)
   walk_done (suc k) at l = absurd (omega arith)
 
-  at_most : (at : ℕ) (r : Read Exp) → at ≤ length s → All (λ e n. (1 ≤ n) × (n ≤ length s - at)) r → limits_at at d r ≤ length s
+  at_most : (at m : ℕ) (r : Read Exp) → at ≤ length s → All (λ e n. (1 ≤ n) × (n ≤ length s - at)) r → limits_at at d r ≡ Some m → m ≤ length s
   unfolding limits_at All
-  at_most at bad l h = omega arith
-  at_most at (got e n) l h = go (shallow d e)
+  at_most at m bad l h e = let z : ⊥ = cc in absurd z
+  at_most at m (got x n) l h e = go (shallow d x) refl
     where
-      go : (b : Bool) → cond b (at + n) 0 ≤ length s
-      go true = omega arith
-      go false = omega arith
+      go : (b : Bool) → shallow d x ≡ b → m ≤ length s
+      go true f = let z = rw f at e in let q : at + n ≡ m = cc in omega arith
+      go false f = let z = rw f at e in let w : ⊥ = cc in absurd w
 
-  pub limits_within : (at : ℕ) → at ≤ length s → limits_at at d (expression (drop at s)) ≤ length s
-  limits_within at l = at_most at (expression (drop at s)) l (rw (length-drop at s) at (bounded (drop at s)))
+  pub limits_within : (at m : ℕ) → at ≤ length s → limits_at at d (expression (drop at s)) ≡ Some m → m ≤ length s
+  limits_within at m l e = at_most at m (expression (drop at s)) l (rw (length-drop at s) at (bounded (drop at s))) e
 
 -- ── the expression at an offset ──────────────────────────────────────────────────────────────
 
@@ -266,7 +271,7 @@ depth_pos (one o e) = omega arith
 depth_pos (two o e f) = omega arith
 depth_pos (if c e f) = omega arith
 
-pub no_depth : (at : ℕ) (r : Read Exp) → limits_at at 0 r ≡ 0
+pub no_depth : (at : ℕ) (r : Read Exp) → limits_at at 0 r ≡ None
 unfolding limits_at shallow
 no_depth at bad = refl
 no_depth at (got e n) = rw (lt-leb (depth_of e) 0 (depth_pos e))
@@ -274,23 +279,23 @@ no_depth at (got e n) = rw (lt-leb (depth_of e) 0 (depth_pos e))
 module _ (d : ℕ) (s : List ℕ) (at c : ℕ) (h : get_or (drop at s) 0 0 ≡ c) (fits : head_fits (drop at s) ≡ true) where
   limits-built :
       (b : Bool) (u : List ℕ) (r : Read (List Exp)) → get_or u 0 0 ≡ c → precise_head u ≡ b → All (λ es n. length es ≡ operands c) r →
-      limits_at at (suc d) (headed (build u) (head_size c) r) ≡ cond b (limits_many (at + head_size c) d r) 0
+      limits_at at (suc d) (headed (build u) (head_size c) r) ≡ cond b (limits_many (at + head_size c) d r) None
   unfolding limits_at limits_many after All
-  limits-built b u bad g e l = sym (cond-zero b)
-  limits-built true u (got es n) g e l = rw (built d u c g es l, e) (ap (λ (k : ℕ). cond (all_shallow d es) k 0) sum)
+  limits-built b u bad g e l = sym (cond-none b)
+  limits-built true u (got es n) g e l = rw (built d u c g es l, e) (ap (λ (k : ℕ). cond (all_shallow d es) (Some k) None) sum)
     where
       sum : at + (head_size c + n) ≡ at + head_size c + n
       sum = omega arith
   limits-built false u (got es n) g e l = rw (built d u c g es l, e)
 
-  by_head : (b : Bool) → precise_head (drop at s) ≡ b → limits_at at (suc d) (expression (drop at s)) ≡ cond b (limits_from (operands c) d (at + head_size c) s) 0
+  by_head : (b : Bool) → precise_head (drop at s) ≡ b → limits_at at (suc d) (expression (drop at s)) ≡ cond b (limits_from (operands c) d (at + head_size c) s) None
   unfolding limits_from
   by_head b e =
       ap (limits_at at (suc d)) (some_exp (drop at s) fits)
       ∙ rw h (limits-built b (drop at s) (read_many expression (operands c) (drop (head_size c) (drop at s))) h e (sized expression (operands c) (drop (head_size c) (drop at s))) ∙ rw (drop-drop (head_size c) at s))
 
 module _ (s : List ℕ) (at c : ℕ) (h : get_or (drop at s) 0 0 ≡ c) (fits : head_fits (drop at s) ≡ true) where
-  pub limits_imprecise : (d : ℕ) → (d ≡ 0 → ⊥) → precise_head (drop at s) ≡ false → limits_at at d (expression (drop at s)) ≡ 0
+  pub limits_imprecise : (d : ℕ) → (d ≡ 0 → ⊥) → precise_head (drop at s) ≡ false → limits_at at d (expression (drop at s)) ≡ None
   limits_imprecise zero l e = absurd (l refl)
   limits_imprecise (suc d) l e = by_head d s at c h fits false e
 
@@ -300,18 +305,18 @@ module _ (s : List ℕ) (at c : ℕ) (h : get_or (drop at s) 0 0 ≡ c) (fits : 
       let q : d ≡ suc d - 1 = omega arith in
       by_head d s at c h fits true e ∙ ap (λ (j : ℕ). limits_from (operands c) j (at + head_size c) s) q
 
-pub limits_none : (s : List ℕ) (at d : ℕ) → head_fits (drop at s) ≡ false → limits_at at d (expression (drop at s)) ≡ 0
+pub limits_none : (s : List ℕ) (at d : ℕ) → head_fits (drop at s) ≡ false → limits_at at d (expression (drop at s)) ≡ None
 unfolding limits_at
 limits_none s at d e = rw (no_exp (drop at s) e)
 
-limits_go : (s : List ℕ) (r : Read Exp) → Bounded s r → not (eqb (limits_at 0 16 r) 0) ≡ limits_read r
-unfolding limits_at limits_read expression_limits shallow All
-limits_go s bad h = refl
-limits_go s (got e n) h = go (leb (depth_of e) 16 && precise e)
+limits_go : (r : Read Exp) → is_some (limits_at 0 16 r) ≡ limits_read r
+unfolding limits_at limits_read expression_limits shallow
+limits_go bad = refl
+limits_go (got e n) = go (leb (depth_of e) 16 && precise e)
   where
-    go : (b : Bool) → not (eqb (cond b (0 + n) 0) 0) ≡ b
-    go true = rw (ne_eqb (0 + n) 0 (λ i. omega arith))
+    go : (b : Bool) → is_some (cond b (Some (0 + n)) None) ≡ b
+    go true = refl
     go false = refl
 
-pub limits_whole : (s : List ℕ) → not (eqb (limits_at 0 16 (expression (drop 0 s))) 0) ≡ limits_read (expression s)
-limits_whole s = limits_go s (expression s) (bounded s)
+pub limits_whole : (s : List ℕ) → is_some (limits_at 0 16 (expression (drop 0 s))) ≡ limits_read (expression s)
+limits_whole s = limits_go (expression s)

@@ -9,9 +9,8 @@ use lib.Dec.{leb, eqb}
 use lib.ListN.{get_or, drop, length, length-drop}
 use lib.Seq.{drop-drop}
 use borrow.Author.Tests.{le-ltb}
+use Rattle.std.specs.Prelude.{Option, Some, None}
 use Rattle.model.specs.Expressions.{Exp, Read, bad, got, after, read_many, head_size, operands, head_fits, build, provided, read_exp, expression}
-use Rattle.expressions.specs.declared.Form.{Form}
-use Rattle.expressions.specs.declared.Form.TheVariants.{Bytes, Malformed}
 use Rattle.expressions.specs.Reading.{end_from, is_read, skip_to}
 
 -- ── the head ─────────────────────────────────────────────────────────────────────────────────
@@ -97,19 +96,19 @@ some_exp s e = open-exp s ∙ rw e
 
 -- ── size ─────────────────────────────────────────────────────────────────────────────────────
 
-unfoldable pub onward : Form → (ℕ → Form) → Form
-onward Malformed f = Malformed
-onward (Bytes n) f = f n
+unfoldable pub onward : Option ℕ → (ℕ → Option ℕ) → Option ℕ
+onward None f = None
+onward (Some n) f = f n
 
 -- the end of k expressions from an offset on
-unfoldable pub ends : ℕ → ℕ → List ℕ → Form
+unfoldable pub ends : ℕ → ℕ → List ℕ → Option ℕ
 ends k at s = end_from at (read_many expression k (drop at s))
 
 module _ (s : List ℕ) where
   end_got : (r : Read (List Exp)) (a : Exp) (at n : ℕ) → end_from at (joined a n r) ≡ end_from (at + n) r
   unfolding end_from after
   end_got bad a at n = refl
-  end_got (got es m) a at n = ap Bytes (omega arith)
+  end_got (got es m) a at n = ap Some (omega arith)
 
   ends_go : (k at : ℕ) (r : Read Exp) → end_from at (others expression k (drop at s) r) ≡ onward (end_from at r) (λ to. ends k to s)
   unfolding end_from onward ends after
@@ -120,15 +119,15 @@ module _ (s : List ℕ) where
   unfolding ends read_many
   ends_one k at = ends_go k at (expression (drop at s))
 
-  onward_onward : (r : Form) (f g : ℕ → Form) → onward r (λ n. onward (f n) g) ≡ onward (onward r f) g
+  onward_onward : (r : Option ℕ) (f g : ℕ → Option ℕ) → onward r (λ n. onward (f n) g) ≡ onward (onward r f) g
   unfolding onward
-  onward_onward Malformed f g = refl
-  onward_onward (Bytes n) f g = refl
+  onward_onward None f g = refl
+  onward_onward (Some n) f g = refl
 
-  onward_cong : (r : Form) (f g : ℕ → Form) → ((n : ℕ) → f n ≡ g n) → onward r f ≡ onward r g
+  onward_cong : (r : Option ℕ) (f g : ℕ → Option ℕ) → ((n : ℕ) → f n ≡ g n) → onward r f ≡ onward r g
   unfolding onward
-  onward_cong Malformed f g h = refl
-  onward_cong (Bytes n) f g h = h n
+  onward_cong None f g h = refl
+  onward_cong (Some n) f g h = h n
 
   ends_add : (k p at : ℕ) → ends (k + p) at s ≡ onward (ends k at s) (λ to. ends p to s)
   unfolding ends end_from onward read_many
@@ -142,12 +141,12 @@ module _ (s : List ℕ) where
       ∙ ends_one (k + p) at
       ∙ onward_cong (end_from at (expression (drop at s))) (λ to. ends (k + p) to s) (λ to. onward (ends k to s) (λ to. ends p to s)) (ends_add k p)
       ∙ onward_onward (end_from at (expression (drop at s))) (λ to. ends k to s) (λ to. ends p to s)
-      ∙ ap (λ (r : Form). onward r (λ to. ends p to s)) (sym (ends_one k at))
+      ∙ ap (λ (r : Option ℕ). onward r (λ to. ends p to s)) (sym (ends_one k at))
 
   end_built : (r : Read (List Exp)) (f : List Exp → Exp) (at h : ℕ) → end_from at (headed f h r) ≡ end_from (at + h) r
   unfolding end_from after
   end_built bad f at h = refl
-  end_built (got es m) f at h = ap Bytes (omega arith)
+  end_built (got es m) f at h = ap Some (omega arith)
 
   end_exp : (at c : ℕ) → head_fits (drop at s) ≡ true → get_or (drop at s) 0 0 ≡ c → end_from at (expression (drop at s)) ≡ ends (operands c) (at + head_size c) s
   unfolding ends
@@ -161,17 +160,17 @@ module _ (s : List ℕ) where
   ends_turn p at c e f =
       let x : operands c + p ≡ p + operands c = omega arith in
       ends_one p at
-      ∙ ap (λ (r : Form). onward r (λ to. ends p to s)) (end_exp at c e f)
+      ∙ ap (λ (r : Option ℕ). onward r (λ to. ends p to s)) (end_exp at c e f)
       ∙ sym (ends_add (operands c) p (at + head_size c))
       ∙ ap (λ (k : ℕ). ends k (at + head_size c) s) x
 
-  pub ends_bad : (p at : ℕ) → head_fits (drop at s) ≡ false → ends (suc p) at s ≡ Malformed
+  pub ends_bad : (p at : ℕ) → head_fits (drop at s) ≡ false → ends (suc p) at s ≡ None
   unfolding end_from onward
   ends_bad p at e = ends_one p at ∙ rw (no_exp (drop at s) e)
 
-  pub ends_none : (at : ℕ) → ends 0 at s ≡ Bytes at
+  pub ends_none : (at : ℕ) → ends 0 at s ≡ Some at
   unfolding ends end_from read_many
-  ends_none at = ap Bytes (omega arith)
+  ends_none at = ap Some (omega arith)
 
   whole_go : (at : ℕ) (r : Read Exp) → onward (end_from at r) (λ to. ends 0 to s) ≡ end_from at r
   unfolding end_from onward
@@ -187,24 +186,24 @@ module _ (s : List ℕ) where
       let x : p + operands c ≡ suc p - 1 + operands c = omega arith in
       ends_turn p at c e f ∙ ap (λ (k : ℕ). ends k (at + head_size c) s) x
 
-  pub halt : (p at : ℕ) → 0 < p → head_fits (drop at s) ≡ false → ends p at s ≡ Malformed
+  pub halt : (p at : ℕ) → 0 < p → head_fits (drop at s) ≡ false → ends p at s ≡ None
   halt zero at l e = absurd (omega arith)
   halt (suc p) at l e = ends_bad p at e
 
-  pub done : (p at : ℕ) → p ≤ 0 → ends p at s ≡ Bytes at
+  pub done : (p at : ℕ) → p ≤ 0 → ends p at s ≡ Some at
   done zero at l = ends_none at
   done (suc p) at l = absurd (omega arith)
 
   -- where p expressions end at e, the first has a head
-  pub goes_on : (p at e : ℕ) → 0 < p → ends p at s ≡ Bytes e → head_fits (drop at s) ≡ true
+  pub goes_on : (p at e : ℕ) → 0 < p → ends p at s ≡ Some e → head_fits (drop at s) ≡ true
   goes_on p at e l h = by_head (head_fits (drop at s)) refl
     where
       by_head : (b : Bool) → head_fits (drop at s) ≡ b → head_fits (drop at s) ≡ true
       by_head true g = g
-      by_head false g = let z : Malformed ≡ Bytes e = sym (halt p at l g) ∙ h in let z' : ◌≡◌ {A = ℕ} 0 1 = cc in absurd (omega arith)
+      by_head false g = let z : None ≡ Some e = sym (halt p at l g) ∙ h in let z' : ◌≡◌ {A = ℕ} 0 1 = cc in absurd (omega arith)
 
 -- what is there ends where it is skipped to
-pub skip_is : {A : Type 0} (at : ℕ) (r : Read A) → is_read r ≡ true → end_from at r ≡ Bytes (skip_to at r)
+pub skip_is : {A : Type 0} (at : ℕ) (r : Read A) → is_read r ≡ true → end_from at r ≡ Some (skip_to at r)
 unfolding end_from is_read skip_to
 skip_is at bad e = let z : ◌≡◌ {A = ℕ} 0 1 = cc in absurd (omega arith)
 skip_is at (got a n) e = refl

@@ -1,15 +1,13 @@
 -- What the readers of an expression say of the one that stands in the bytes.
 -- Assumes nothing.
-use Rattle.std.specs.Prelude.{ℕ, ◌+◌, ◌-◌, Bool, true, false, not, cond, ◌&&◌, ◌||◌, List, leb, eqb, get_or}
+use Rattle.std.specs.Prelude.{ℕ, ◌+◌, Bool, true, false, not, cond, ◌&&◌, ◌||◌, List, Option, Some, None, leb, eqb, get_or}
 use Rattle.model.specs.Values.{in_precision}
 use Rattle.model.specs.Expressions.{Exp, Read, bad, got, depth_of, precise, expression_limits, type_at}
-use Rattle.expressions.specs.declared.Form.{Form}
-use Rattle.expressions.specs.declared.Form.TheVariants.{Bytes, Malformed}
 
--- the offset after what was read at an offset
-unfoldable pub end_from : {A : Type 0} → ℕ → Read A → Form
-end_from at bad = Malformed
-end_from at (got a n) = Bytes (at + n)
+-- the offset after what was read at an offset, if it is there
+unfoldable pub end_from : {A : Type 0} → ℕ → Read A → Option ℕ
+end_from at bad = None
+end_from at (got a n) = Some (at + n)
 
 unfoldable pub is_read : {A : Type 0} → Read A → Bool  -- it is there
 is_read bad = false
@@ -30,10 +28,10 @@ unfoldable pub fits_at : ℕ → Read Exp → Bool  -- it is there, not deeper t
 fits_at d bad = false
 fits_at d (got e n) = shallow d e
 
--- the offset after the expression read at an offset, 0 where it is malformed or beyond a limit
-unfoldable pub limits_at : ℕ → ℕ → Read Exp → ℕ
-limits_at at d bad = 0
-limits_at at d (got e n) = cond (shallow d e) (at + n) 0
+-- the offset after the expression read at an offset, none where it is malformed or beyond a limit
+unfoldable pub limits_at : ℕ → ℕ → Read Exp → Option ℕ
+limits_at at d bad = None
+limits_at at d (got e n) = cond (shallow d e) (Some (at + n)) None
 
 unfoldable pub limits_read : Read Exp → Bool  -- it is there, and keeps the limits
 limits_read bad = false

@@ -9,13 +9,6 @@ ghost use Rattle.expressions.specs.Reading.{end_from, is_read, skip_to, precise_
 
 use model::Ty;
 
-// The bytes that an expression takes, or a fault of form.
-#[derive(Clone, Copy)]
-pub enum Form {
-    Bytes(usize),
-    Malformed,
-}
-
 // The bytes before the operands.
 pub fn head_size(c: u8) -> usize
     ensures { (result ≡ head_size c) × (result ≤ 7) }
@@ -86,8 +79,8 @@ pub fn type_at(s: &[u8], at: usize) -> Ty
     }
 }
 
-// The offset after the expression at an offset: `pending` expressions are still to come.
-pub fn end_of(s: &[u8], from: usize) -> Form
+// The offset after the expression at an offset, none where it is malformed: `pending` expressions are still to come.
+pub fn end_of(s: &[u8], from: usize) -> Option<usize>
     requires { from ≤ length s.now }
     ensures { result ≡ end_from from (expression (drop from s.now)) }
 {
@@ -95,14 +88,14 @@ pub fn end_of(s: &[u8], from: usize) -> Form
     let mut pending: usize = 1;
     while 0 < pending {
         if !head_fits(s, at) {
-            return Form::Malformed;
+            return None;
         }
         let c = octets::byte_at(s, at);
         let head = head_size(c);
         pending = pending - 1 + operands(c);
         at = at + head;
     }
-    Form::Bytes(at)
+    Some(at)
 }
 
 // The offset after the expression at an offset, where one is known to stand: by the sizes of its heads alone, nothing is checked again.
@@ -133,36 +126,31 @@ fn precise_head(s: &[u8], at: usize) -> bool
     true
 }
 
-// The offset after the expression at an offset, 0 where it is malformed, deeper than `depth` or not precise.
-fn limits_at(s: &[u8], at: usize, depth: usize) -> usize
+// The offset after the expression at an offset, none where it is malformed, deeper than `depth` or not precise.
+fn limits_at(s: &[u8], at: usize, depth: usize) -> Option<usize>
     requires { at ≤ length s.now }
     ensures { result ≡ limits_at at depth (expression (drop at s.now)) }
 {
     if depth == 0 {
-        return 0;
+        return None;
     }
     if !head_fits(s, at) {
-        return 0;
+        return None;
     }
     if !precise_head(s, at) {
-        return 0;
+        return None;
     }
     let c = octets::byte_at(s, at);
     let mut next = at + head_size(c);
-    let mut left = operands(c);
-    while 0 < left {
-        next = limits_at(s, next, depth - 1);
-        if next == 0 {
-            return 0;
-        }
-        left = left - 1;
+    for _ in 0..operands(c) {
+        next = limits_at(s, next, depth - 1)?;
     }
-    next
+    Some(next)
 }
 
 // Depth 16 at most, and each precision 1 to 30.
 pub fn limits(s: &[u8]) -> bool
     ensures { result ≡ limits_read (expression s.now) }
 {
-    limits_at(s, 0, 16) != 0
+    limits_at(s, 0, 16).is_some()
 }

@@ -1,4 +1,5 @@
-use Rattle.std.proofs.Common.{◌-◌, get_or, drop, refl, sym, ◌∙◌, arith}
+use Rattle.std.proofs.Common.{◌≡◌, ◌+◌, ◌-◌, get_or, drop, refl, sym, ◌∙◌, arith}
+use Rattle.std.proofs.Math.Nat.{sub-zero}
 use Rattle.model.specs.Expressions.{expression}
 use Rattle.expressions.proofs.Reading.{head_pos}
 use Rattle.expressions.proofs.Heads.{head_at, fits_whole}
@@ -23,31 +24,33 @@ returns-then-not-precise_head t c =
     sym (limits_imprecise a.s.now a.at _ (head_at a.at a.s.now) fits a.depth c.if-depth-eq0.false (sym c.precise_head.ensures ∙ c.if-not-precise_head.true))
 
 -- the head that fits ends within the bytes
-pub loop-left-init : goal.loop-left-init
-loop-left-init t c =
+pub loop-init : goal.loop-init
+loop-init t c =
     let a = c.args in
     let fits = sym c.head_fits.ensures ∙ c.if-not-head_fits.false in
     let start = limits_start a.s.now a.at _ (head_at a.at a.s.now ∙ sym c.byte_at-c.ensures) fits a.depth c.if-depth-eq0.false (sym c.precise_head.ensures ∙ c.if-not-precise_head.false) in
     record {
       inside = rw c.head_size.ensures.0 (fits_whole a.s.now a.at _ c.byte_at-c.ensures fits);
-      same = rw (c.operands-left.ensures.0, c.head_size.ensures.0) (sym start);
+      same = rw (sub-zero, c.operands-end.ensures.0, c.head_size.ensures.0) (sym start);
     }
 
-pub returns-then-next-eq0 : goal.returns-then-next-eq0
-returns-then-next-eq0 t c =
-    let i = c.loop-left in
-    sym (walk-bad (c.args.depth - 1) c.args.s.now i.left i.next c.loop-left-test.true (sym c.limits_at-next.ensures ∙ c.if-next-eq0.true)) ∙ i.invariant.same
+pub returns-in_err-next : goal.returns-in_err-next
+returns-in_err-next t c =
+    let i = c.loop in
+    let none = walk-bad (c.args.depth - 1) c.args.s.now (c.operands-end.result - i.counter) i.next (omega arith) (sym c.limits_at.ensures ∙ c.in_err-next.was) in
+    c.from_residual.ensures ∙ sym none ∙ i.invariant.same
 
-pub loop-left-preserved : goal.loop-left-preserved
-loop-left-preserved t c =
-    let i = c.loop-left in
+pub loop-preserved : goal.loop-preserved
+loop-preserved t c =
+    let i = c.loop in
     let d = c.args.depth - 1 in
-    let r = c.limits_at-next.ensures in
-    let w = walk_good d c.args.s.now i.left i.next _ c.loop-left-test.true (sym r) c.if-next-eq0.false in
+    let left = c.operands-end.result - i.counter in
+    let read = sym c.limits_at.ensures ∙ c.in_ok-next.was in
+    let one_less : c.operands-end.result - (i.counter + 1) ≡ left - 1 = omega arith in
     record {
-      inside = rw r (limits_within d c.args.s.now i.next i.invariant.inside);
-      same = sym w ∙ i.invariant.same;
+      inside = limits_within d c.args.s.now i.next _ i.invariant.inside read;
+      same = rw one_less (sym (walk_good d c.args.s.now left i.next _ (omega arith) read) ∙ i.invariant.same);
     }
 
 pub returns : goal.returns
-returns t c = sym (walk_done (c.args.depth - 1) c.args.s.now c.loop-left.left c.loop-left.next c.loop-left-test.false) ∙ c.loop-left.invariant.same
+returns t c = sym (walk_done (c.args.depth - 1) c.args.s.now (c.operands-end.result - c.loop.counter) c.loop.next (omega arith)) ∙ c.loop.invariant.same

@@ -7,11 +7,9 @@ use Rattle.expressions.proofs.+limits_at.Given as goal
 abbrev pub decreases-limits_at : goal.decreases-limits_at
 decreases-limits_at l = l.depth
 
-abbrev pub invariant-loop-left : goal.invariant-loop-left
-invariant-loop-left l = record {
+-- the operands that are left
+abbrev pub invariant-loop : goal.invariant-loop
+invariant-loop l = record {
   inside : l.next ≤ length l.s;
-  same : limits_from l.left (l.depth - 1) l.next l.s ≡ limits_at l.at l.depth (expression (drop l.at l.s));
+  same : limits_from (l.end - l.counter) (l.depth - 1) l.next l.s ≡ limits_at l.at l.depth (expression (drop l.at l.s));
 }
-
-abbrev pub decreases-loop-left : goal.decreases-loop-left
-decreases-loop-left l = l.left

@@ -1,5 +1,4 @@
 use mathlib.Core.Path.{refl, sym, ◌∙◌}
-use Prim.Native.Nat.{◌-◌}
 use native.Mathlib.Omega.{arith}
 use Rattle.expressions.proofs.Heads.{fits_none, fits_unknown, fits_cut, fits_kind, fits_plain}
 use Rattle.expressions.proofs.head_fits.Goals as goal

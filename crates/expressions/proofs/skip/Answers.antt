@@ -4,19 +4,19 @@ use Prim.Native.Nat.{ℕ, ◌+◌, ◌-◌, ◌≤◌, ◌<◌}
 use native.Mathlib.Omega.{arith}
 use lib.ListN.{get_or, length, drop}
 use Rattle.model.specs.Expressions.{head_size, operands, expression}
-use Rattle.expressions.specs.declared.Form.TheVariants.{Bytes}
+use Rattle.std.specs.Prelude.{Some}
 use Rattle.expressions.specs.Reading.{skip_to}
 use Rattle.expressions.proofs.Reading.{ends, ends_whole, turn, done, goes_on, skip_is, head_pos}
 use Rattle.expressions.proofs.Heads.{head_at, fits_whole}
 use Rattle.expressions.proofs.skip.Goals as goal
 
 -- where p expressions end at e, the first has a head of n bytes
-module _ (s : List ℕ) (p at : ℕ) {e c n : ℕ} (l : 0 < p) (h : ends p at s ≡ Bytes e) (is : c ≡ get_or s at 0) (size : n ≡ head_size c) where
+module _ (s : List ℕ) (p at : ℕ) {e c n : ℕ} (l : 0 < p) (h : ends p at s ≡ Some e) (is : c ≡ get_or s at 0) (size : n ≡ head_size c) where
   whole : (at + n ≤ length s) × (1 ≤ n)
   whole = (rw size (fits_whole s at c is (goes_on s p at e l h)), rw size (head_pos c))
 
   -- and what is left ends there too
-  left_is : {m : ℕ} → m ≡ operands c → ends (p - 1 + m) (at + n) s ≡ Bytes e
+  left_is : {m : ℕ} → m ≡ operands c → ends (p - 1 + m) (at + n) s ≡ Some e
   left_is k = rw (k, size) (sym (turn s p at c l (goes_on s p at e l h) (head_at at s ∙ sym is)) ∙ h)
 
 pub loop-left-init : goal.loop-left-init
@@ -53,5 +53,5 @@ loop-left-preserved c =
 pub returns : goal.returns
 returns c =
     let i = c.loop-left in
-    let e : Bytes i.at ≡ Bytes (skip_to _ _) = sym (done c.args.s.now i.left i.at c.loop-left-test.false) ∙ i.invariant.1 in
+    let e : Some i.at ≡ Some (skip_to _ _) = sym (done c.args.s.now i.left i.at c.loop-left-test.false) ∙ i.invariant.1 in
     cc
