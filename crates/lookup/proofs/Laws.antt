@@ -7,7 +7,6 @@ use Prim.Native.Nat.{ℕ, ◌+◌, ◌-◌, ◌≤◌, ◌<◌}
 use native.Mathlib.Omega.{arith}
 use lib.Dec.{ltb}
 use lib.ListN.{length, get_or}
-use Rattle.model.specs.declared.Ty.{Ty}
 use Rattle.model.specs.Bytes.{two_at, stretch}
 use Rattle.model.specs.Expressions.{type_at}
 use Rattle.model.specs.Network.{Wire, Net, output, wire, proc}

@@ -1,7 +1,7 @@
 -- What an accepted file's table says, entry by entry, of the decoded network: for the accessors alone, but for the counts and the ends.
 -- Assumes nothing.
 use mathlib.Core.Path.{◌≡◌, refl, sym, ap, ◌∙◌, subst}
-use mathlib.Core.Bool.{Bool, true, false, cond}
+use mathlib.Core.Bool.{cond}
 use mathlib.Core.List.{List, []}
 use Prim.Native.Nat.{ℕ, ◌+◌, ◌-◌, ◌≤◌, ◌<◌}
 use native.Mathlib.Omega.{arith}
@@ -11,7 +11,7 @@ use lib.ListN.{length, get_or}
 use borrow.Author.Tests.{lt-ltb, le-ltb}
 use Rattle.model.specs.declared.Token.{Token}
 use Rattle.model.specs.Bytes.{two_at}
-use Rattle.model.specs.Network.{Wire, Proc, input, output, Net, wire, proc}
+use Rattle.model.specs.Network.{Proc, input, output, Net, wire, proc}
 use Rattle.model.specs.NetworkFile.{Index, wire_of, box_at, input_at, output_at, rules_end, rule_at, net_of}
 use Rattle.model.specs.States.{tokens_fit}
 use Rattle.model.proofs.Accepted.{Valid, InFile}
@@ -19,7 +19,7 @@ use Rattle.model.proofs.Decoded.{GoodWire, GoodProc, GoodNet}
 use Rattle.model.proofs.Lookup.{wire_at_lem, input_proc, output_proc, wires_length, procs_length, rules_length}
 use Rattle.model.proofs.Whole.{network_checked, net_good}
 use Rattle.table.specs.declared.Counts.{Counts}
-use Rattle.table.specs.Table.{region, index_in, Within}
+use Rattle.table.specs.Table.{index_in}
 use Rattle.table.proofs.Regions.{region-length, region_at}
 use Rattle.table.proofs.Lengths.{wires_n, boxes_n, inputs_n, outputs_n}
 use Rattle.lookup.specs.Ends.{wire_at, room_at}
