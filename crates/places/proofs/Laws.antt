@@ -2,7 +2,7 @@
 -- Assumes nothing.
 use mathlib.Core.Path.{◌≡◌, sym, ap, ◌∙◌}
 use mathlib.Core.List.{List, [], ◌∷◌, ◌++◌, map}
-use Prim.Native.Nat.{ℕ, zero, suc, ◌+◌, ◌-◌, ◌*◌, ◌≤◌, ◌<◌}
+use Prim.Native.Nat.{ℕ, zero, suc, ◌+◌, ◌*◌, ◌≤◌, ◌<◌}
 use native.Mathlib.Omega.{arith}
 use native.Mathlib.Numerals.{add-one}
 use lib.ListN.{length, get_or, take, set, length-append, length-map, get_or-append}
@@ -77,8 +77,15 @@ module _ (s t : List ℕ) (c : Counts) (h : Tabled s t c) where
   unfolding sizes_of state_size wires_size
   sizes_sum = sum_append (map wire_size n.wires) (map own_size n.procs)
 
-  pub sizes_most : sum (sizes_of n) ≤ 61088
+  sizes_most : sum (sizes_of n) ≤ 61088
   sizes_most = omega (arith, sizes_sum, state_most s x (valid s t c h) [] (bare_good s t c h))
+
+  -- a start is small, and the next one is the size further on
+  pub start_small : (j : ℕ) → start_of (sizes_of n) j ≤ 61088
+  start_small j = omega (arith, start_most (sizes_of n) j, sizes_most)
+
+  pub start_on : (j at v : ℕ) → j < c.wires + (c.boxes + c.inputs + c.outputs) → at ≡ start_of (sizes_of n) j → v ≡ get_or (sizes_of n) j 0 → at + v ≡ start_of (sizes_of n) (j + 1)
+  start_on j at v l e f = omega (arith, e, f, start_next (sizes_of n) j (omega (arith, sizes_length)))
 
   pub size_wire : (j k : ℕ) → j < c.wires → k ≡ (wire n j).capacity → 1 + 5 * k ≡ get_or (sizes_of n) j 0
   unfolding sizes_of wire_size wire

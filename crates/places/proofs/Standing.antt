@@ -1,39 +1,35 @@
 -- What stands at a wire's and at a process's span, and that a good state in its place stands again.
 -- Assumes nothing.
-use mathlib.Core.Path.{◌≡◌, refl, sym, ap, ap₂, ◌∙◌, subst}
-use mathlib.Core.Bool.{Bool, true, false, ◌&&◌}
+use mathlib.Core.Path.{◌≡◌, refl, sym, ap, ap₂, ◌∙◌}
+use mathlib.Core.Bool.{true}
 use mathlib.Core.List.{List, [], ◌∷◌, ◌++◌, map}
 use Prim.Native.Nat.{ℕ, zero, suc, ◌+◌, ◌-◌, ◌/◌, ◌≤◌, ◌<◌}
 use native.Mathlib.Omega.{arith}
-use native.Mathlib.Decide.{dec_lt}
 use lib.Dec.{eqb, leb}
-use lib.ListN.{length, get_or, drop, take, length-append, length-map, length-take, length-drop, take-append-drop, get_or-append}
-use lib.Seq.{take-append_seam, drop-append_seam, get_or-append-add}
+use lib.ListN.{length, get_or, drop, take, length-append, length-take, length-drop, take-append-drop}
 use borrow.Author.Tests.{leb-true}
 use Rattle.model.specs.declared.Ty.{Ty}
 use Rattle.model.specs.declared.Token.{Token}
 use Rattle.model.specs.declared.Field.{Field}
 use Rattle.model.specs.declared.Field.TheVariants.{At, Cut}
 use Rattle.model.specs.Bytes.{stretch}
-use Rattle.model.specs.Network.{Wire, Proc, box, input, output, Net, Own, State, wire, proc, queue, own, no_wire, nobody}
-use Rattle.model.specs.NetworkFile.{Index, Verdict, good, refuse, field_at, network, net_of, tabulate, box_at, input_at, output_at}
-use Rattle.model.specs.States.{token_field, tokens_in, input_tokens, tokens_from, token_file, input_types, wire_bytes, own_bytes, bytes_of, wire_size, own_size, wires_size, state_size, state_fits, state_in, sum}
-use Rattle.model.proofs.Decoded.{GoodNet, GoodProc, get_d_map_lt}
+use Rattle.model.specs.Network.{Wire, Proc, box, Net, State, wire, proc, queue, own, no_wire, nobody}
+use Rattle.model.specs.NetworkFile.{Index, good, field_at, net_of, tabulate, box_at, input_at, output_at}
+use Rattle.model.specs.States.{token_field, tokens_in, input_tokens, tokens_from, token_file, input_types, wire_bytes, own_bytes, bytes_of, wire_size, own_size, wires_size, state_size, sum}
+use Rattle.model.proofs.Decoded.{GoodNet, get_d_map_lt}
 use Rattle.model.proofs.Order.{OneEach}
-use Rattle.model.proofs.Lookup.{wires_length, procs_length}
+use Rattle.model.proofs.Lookup.{procs_length}
 use Rattle.model.proofs.Whole.{network_checked, accepted_net, ports_all, one_each, next_good, or_refuse_good}
 use Rattle.model.proofs.Kept.{GoodState}
 use Rattle.model.proofs.Sizes.{map-append}
 use Rattle.table.specs.declared.Counts.{Counts}
 use Rattle.table.specs.Table.{index_in}
 use Rattle.octets.proofs.Laws.{Octets}
-use Rattle.queues.specs.Segments.{mid, put_mid, wire_start, own_start, start_of}
+use Rattle.queues.specs.Segments.{mid, wire_start, own_start, start_of}
 use Rattle.queues.specs.Sound as laid
 use Rattle.queues.proofs.Saved.{good_laid, good_back, good_fits, fits_good}
 use Rattle.queues.proofs.Reading.{length_read}
-use Rattle.queues.proofs.Whole.{wire_part, own_part, length_bytes, state_whole, state_sound}
-use Rattle.lookup.specs.Tabled.{Tabled}
-use Rattle.lookup.proofs.Tabled.{valid}
+use Rattle.queues.proofs.Whole.{wire_part, own_part, length_bytes, state_whole}
 use Rattle.places.specs.declared.Span.{Span}
 use Rattle.places.specs.Places.{WireSpan, OwnSpan}
 use Rattle.places.specs.Standing.{bare_net, tokens_of, net_in, Standing, state_of}

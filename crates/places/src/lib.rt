@@ -1,49 +1,46 @@
 #![tactic(auto)]
 
 // Where the bytes of each wire and of each process begin in a state, and how many bytes a state takes.
-ghost use Rattle.std.specs.Prelude.{◌≡◌, [], ◌+◌, ◌≤◌, ◌<◌, length, get_or};
-ghost use Rattle.model.specs.NetworkFile.{net_of};
-ghost use Rattle.table.specs.Table.{index_in};
-ghost use Rattle.lookup.specs.Tabled.{Tabled};
+ghost use Rattle.std.specs.Prelude.{◌≡◌, ◌+◌, ◌≤◌, ◌<◌, length, get_or};
+ghost use Rattle.lookup.specs.Views.{network_of};
 ghost use Rattle.places.specs.Places.{sizes_of, Placed, Placing, Between, WireSpan, OwnSpan};
+ghost use Rattle.places.specs.Props.{Placed_prop};
 
+use lookup::Net;
 use model::{ProcessId, WireId};
-use table::Counts;
 
 // The bytes of segment j: wires first, then boxes, inputs and outputs.
-fn segment_size(net: &[u8], table: &[u16], c: Counts, j: usize) -> usize
-    requires tabled { Tabled net.now table.now c }
-    requires j_bound { j < c.wires + (c.boxes + c.inputs + c.outputs) }
-    ensures { result ≡ get_or (sizes_of (net_of net.now (index_in table.now c) [])) j 0 }
+fn segment_size(net: &Net, j: usize) -> usize
+    requires { j < net.now.counts.wires + (net.now.counts.boxes + net.now.counts.inputs + net.now.counts.outputs) }
+    ensures { result ≡ get_or (sizes_of (network_of net.now)) j 0 }
 {
+    let c = net.counts;
     if j < c.wires {
-        return 1 + 5 * lookup::capacity(net, table, c, WireId(j as u8));
+        return 1 + 5 * net.capacity(WireId(j as u8));
     }
     let k = j - c.wires;
     if k < c.boxes {
-        let body = lookup::box_body(net, table, c, ProcessId(k as u8));
-        return 4 * octets::wide(octets::byte_at(body, 2));
+        let body = net.box_body(ProcessId(k as u8));
+        return 4 * usize::from(octets::byte_at(body, 2));
     }
     let i = k - c.boxes;
     if i < c.inputs {
         return 2;
     }
-    2 + 5 * lookup::room(net, table, c, ProcessId(k as u8))
+    2 + 5 * net.room(ProcessId(k as u8))
 }
 
 // Each segment's start, then the end of the last, and the size of all.
-pub fn places(net: &[u8], table: &[u16], c: Counts, starts: &mut [u16]) -> usize
-    requires tabled { Tabled net.now table.now c }
-    requires in_bounds { 113 ≤ length starts.old }
-    ensures { Placing (net_of net.now (index_in table.now c) []) starts.new result }
+pub fn places(net: &Net, starts: &mut [u16]) -> usize
+    requires { 113 ≤ length starts.old }
+    ensures { Placing (network_of net.now) starts.new result }
 {
+    let c = net.counts;
     let total = c.wires + (c.boxes + c.inputs + c.outputs);
     let mut at: usize = 0;
-    let mut j: usize = 0;
-    while j < total {
+    for j in 0..total {
         starts[j] = at as u16;
-        at += segment_size(net, table, c, j);
-        j += 1;
+        at += segment_size(net, j);
     }
     starts[total] = at as u16;
     at
@@ -56,33 +53,46 @@ pub struct Span {
     pub end: usize,
 }
 
-// Where segment j lies: it ends where the next begins.
-fn segment_span(starts: &[u16], j: usize) -> Span
-    requires { j < 65536 }
-    ensures { Between starts.now j result }
-{
-    let start = octets::entry(starts, j);
-    let end = octets::entry(starts, j + 1);
-    Span { start, end }
+// An accepted network with the starts of the segments of its states.
+#[derive(Clone, Copy)]
+pub struct Plan<'a> {
+    pub net: Net<'a>,
+    pub starts: &'a [u16],
+    pub ghost placed: { Placed (network_of net) starts.now } by { Placed_prop (network_of net) starts.now },
 }
 
-// Where the bytes of a wire lie.
-pub fn wire_span(net: &[u8], table: &[u16], c: Counts, starts: &[u16], w: WireId) -> Span
-    requires tabled { Tabled net.now table.now c }
-    requires placed { Placed (net_of net.now (index_in table.now c) []) starts.now }
-    requires w_lt_wires { w.0 < c.wires }
-    ensures { WireSpan (net_of net.now (index_in table.now c) []) w.0 result }
-{
-    segment_span(starts, octets::wide(w.0))
+impl<'a> Plan<'a> {
+    // Where segment j lies: it ends where the next begins.
+    fn segment_span(&self, j: usize) -> Span
+        requires { j < 65536 }
+        ensures { Between self.now.starts.now j result }
+    {
+        Span {
+            start: octets::entry(self.starts, j),
+            end: octets::entry(self.starts, j + 1),
+        }
+    }
+
+    // Where the bytes of a wire lie.
+    pub fn wire_span(&self, w: WireId) -> Span
+        requires { w.0 < self.now.net.counts.wires }
+        ensures { WireSpan (network_of self.now.net) w.0 result }
+    {
+        self.segment_span(usize::from(w.0))
+    }
+
+    // Where the bytes of a process lie.
+    pub fn own_span(&self, k: ProcessId) -> Span
+        requires { k.0 < self.now.net.counts.boxes + self.now.net.counts.inputs + self.now.net.counts.outputs }
+        ensures { OwnSpan (network_of self.now.net) k.0 result }
+    {
+        self.segment_span(self.net.counts.wires + usize::from(k.0))
+    }
 }
 
-// Where the bytes of a process lie.
-pub fn own_span(net: &[u8], table: &[u16], c: Counts, starts: &[u16], k: ProcessId) -> Span
-    requires tabled { Tabled net.now table.now c }
-    requires placed { Placed (net_of net.now (index_in table.now c) []) starts.now }
-    requires k_bound { k.0 < c.boxes + c.inputs + c.outputs }
-    ensures { OwnSpan (net_of net.now (index_in table.now c) []) k.0 result }
-{
-    let wires = c.wires;
-    segment_span(starts, wires + octets::wide(k.0))
+// An accepted network with an accepted token file: what a lent state belongs to.
+#[derive(Clone, Copy)]
+pub struct Site<'a> {
+    pub plan: Plan<'a>,
+    pub tokens: &'a [u8],
 }
