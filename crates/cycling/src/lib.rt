@@ -27,7 +27,7 @@ fn rule_for(rules: &[u8], boxes: usize, k: ProcessId) -> RuleId
     requires { (boxes ≤ 32) × (length rules.now ≡ 32) }
     ensures { result.0 ≡ rule_for rules.now boxes k.0 }
 {
-    let i = octets::wide(k.0);
+    let i = usize::from(k.0);
     if i < boxes {
         return RuleId(rules[i]);
     }
@@ -74,11 +74,8 @@ fn fire_order(
     requires order { Order (net_in net.now table.now c tokens.now) (state_of net.now table.now c tokens.now state.old) order.now }
     ensures { Became net.now table.now starts.now tokens.now state.old c state.new (cycle_in (net_in net.now table.now c tokens.now) order.now (state_of net.now table.now c tokens.now state.old)) }
 {
-    let mut i: usize = 0;
-    while i < order.len() {
-        let k = ProcessId(order[i]);
-        fire_next(net, table, c, starts, tokens, fields, rules, k, state);
-        i += 1;
+    for &k in order {
+        fire_next(net, table, c, starts, tokens, fields, rules, ProcessId(k), state);
     }
 }
 
@@ -124,14 +121,11 @@ fn fire_marked(
     requires told { Told (net_in net.now table.now c tokens.now) (state_of net.now table.now c tokens.now state.old) set rules.now }
     ensures { Became net.now table.now starts.now tokens.now state.old c state.new (cycle_in (net_in net.now table.now c tokens.now) (marked_of (net_in net.now table.now c tokens.now) (state_of net.now table.now c tokens.now state.old)) (state_of net.now table.now c tokens.now state.old)) }
 {
-    let total = c.boxes + c.inputs + c.outputs;
-    let mut k: usize = 0;
-    while k < total {
+    for k in 0..c.boxes + c.inputs + c.outputs {
         let process = ProcessId(k as u8);
         fire_if(
             net, table, c, starts, tokens, fields, rules, set, process, state,
         );
-        k += 1;
     }
 }
 

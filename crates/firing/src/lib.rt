@@ -88,7 +88,7 @@ pub fn fire(
     requires chosen { Chosen c (net_in net.now table.now c tokens.now) (state_of net.now table.now c tokens.now state.old) k.0 r.0 }
     ensures { Became net.now table.now starts.now tokens.now state.old c state.new (fired (net_in net.now table.now c tokens.now) k.0 r.0 (state_of net.now table.now c tokens.now state.old)) }
 {
-    let i = octets::wide(k.0);
+    let i = usize::from(k.0);
     if i < c.boxes {
         fire_box(net, table, c, starts, tokens, k, r, state);
         return;

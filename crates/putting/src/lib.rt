@@ -102,14 +102,12 @@ pub fn put_sent(
     ensures { (result ≡ skip_to from (actions_from false outs from body.now)) × Became net.now table.now starts.now tokens.now state.old c state.new (after_puts (sent_from vals.now types.now (box_at net.now (index_in table.now c) k.0).outs body.now outs from) (state_of net.now table.now c tokens.now state.old)) }
 {
     let mut at = from;
-    let mut out = 0;
-    while out < outs {
+    for out in 0..outs {
         let next = rules::skip_action(body, at);
         put_one(
             net, table, c, starts, tokens, k, out, body, at, vals, types, state,
         );
         at = next;
-        out += 1;
     }
     at
 }
@@ -138,13 +136,11 @@ pub fn keep_new(
     ensures { Became net.now table.now starts.now tokens.now state.old c state.new (after_keeps k.0 (new_from vals.now types.now (vars_of (own (state_of net.now table.now c tokens.now state.old) k.0)) body.now vars from) (state_of net.now table.now c tokens.now state.old)) }
 {
     let mut at = from;
-    let mut var = 0;
-    while var < vars {
+    for var in 0..vars {
         let next = rules::skip_action(body, at);
         keep_one(
             net, table, c, starts, tokens, k, var, body, at, vals, types, state,
         );
         at = next;
-        var += 1;
     }
 }

@@ -50,7 +50,7 @@ pub fn fire_input(
     requires input_ready { InputReady c (net_in net.now table.now c tokens.now) (state_of net.now table.now c tokens.now state.old) k.0 }
     ensures { Became net.now table.now starts.now tokens.now state.old c state.new (fired (net_in net.now table.now c tokens.now) k.0 0 (state_of net.now table.now c tokens.now state.old)) }
 {
-    let i = octets::wide(k.0) - c.boxes;
+    let i = usize::from(k.0) - c.boxes;
     let w = lookup::input_wire(net, table, c, k);
     let part = sights::own_part(net, table, c, starts, tokens, k, state);
     let taken = octets::two_at(part, 0);
@@ -98,14 +98,12 @@ pub fn take_read(
     ensures { Became net.now table.now starts.now tokens.now state.old c state.new (after_reading (box_at net.now (index_in table.now c) k.0).ins (read_from (length (box_at net.now (index_in table.now c) k.0).ins) 0 body.now) (state_of net.now table.now c tokens.now state.old)) }
 {
     let ports = lookup::box_body(net, table, c, k);
-    let n = octets::wide(octets::byte_at(ports, 0));
+    let n = usize::from(octets::byte_at(ports, 0));
     let mut at = 0;
-    let mut j = 0;
-    while j < n {
+    for j in 0..n {
         let next = rules::skip_pattern(body, at);
         let code = octets::byte_at(body, at);
         take_at(net, table, c, starts, tokens, k, j, code, state);
         at = next;
-        j += 1;
     }
 }

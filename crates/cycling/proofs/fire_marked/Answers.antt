@@ -4,41 +4,23 @@ use Rattle.cycling.proofs.Midway.{noted_many}
 use Rattle.cycling.proofs.Rounds.{from_first, from_last, from_asks, from_next}
 use Rattle.cycling.proofs.fire_marked.Goals as goal
 
-pub overflow_add-total : goal.overflow_add-total
-overflow_add-total c = let w = c.requires.standing.tabled.within in omega (arith, w.boxes, w.inputs, w.outputs)
-
-pub overflow_add-total-2 : goal.overflow_add-total-2
-overflow_add-total-2 c = let w = c.requires.standing.tabled.within in omega (arith, w.boxes, w.inputs, w.outputs)
-
 pub loop-k-init : goal.loop-k-init
 loop-k-init c = let q = c.requires in (q.standing, q.told, from_first _ _ _ _ _ _ q.standing _ _ q.told)
 
 pub overflow_cast-process : goal.overflow_cast-process
-overflow_cast-process c = let w = c.loop-k.invariant.0.tabled.within in omega (arith, c.loop-k-test.true, w.boxes, w.inputs, w.outputs)
+overflow_cast-process c = let w = c.requires.standing.tabled.within in omega (arith, w.boxes, w.inputs, w.outputs)
 
 pub fire_if-requires : goal.fire_if-requires
 fire_if-requires c =
-    let test = c in
-    let inv = test.loop-k.invariant in
+    let inv = c.loop-k.invariant in
     let w = inv.0.tabled.within in
-    let small : test.loop-k.k < 64 = omega (arith, test.loop-k-test.true, w.boxes, w.inputs, w.outputs) in
-    record { standing = inv.2.became.stands; fields = test.requires.fields; k_bound = (small, noted_many _ _ _ inv.1.noted); chosen = from_asks _ _ _ _ _ _ inv.0 _ _ inv.1 _ _ test.loop-k-test.true inv.2 }
-
-pub overflow_add-k : goal.overflow_add-k
-overflow_add-k c =
-    let test = c in
-    let w = test.loop-k.invariant.0.tabled.within in
-    omega (arith, test.loop-k-test.true, w.boxes, w.inputs, w.outputs)
-
-pub loop-k-smaller : goal.loop-k-smaller
-loop-k-smaller c = omega (arith, c.loop-k-test.true)
+    let small : c.loop-k.k < 64 = omega (arith, w.boxes, w.inputs, w.outputs) in
+    record { standing = inv.2.became.stands; fields = c.requires.fields; k_bound = (small, noted_many _ _ _ inv.1.noted); chosen = from_asks _ _ _ _ _ _ inv.0 _ _ inv.1 _ _ c.loop-k-test.true inv.2 }
 
 pub loop-k-preserved : goal.loop-k-preserved
 loop-k-preserved c =
-    let fired = c in
-    let test = fired in
-    let inv = test.loop-k.invariant in
-    (inv.0, inv.1, from_next _ _ _ _ _ _ inv.0 _ _ inv.1 _ _ test.loop-k-test.true inv.2 _ fired.fire_if.ensures)
+    let inv = c.loop-k.invariant in
+    (inv.0, inv.1, from_next _ _ _ _ _ _ inv.0 _ _ inv.1 _ _ c.loop-k-test.true inv.2 _ c.fire_if.ensures)
 
 pub shape_of-state : goal.shape_of-state
 shape_of-state c = c.loop-k.invariant.2.became.long

@@ -9,33 +9,33 @@ use Rattle.putting.proofs.put_sent.Goals as goal
 pub loop-out-init : goal.loop-out-init
 loop-out-init c =
     let p = c.requires in
-    (omega arith, sent_start _ _ _ _ _ _ _ _ _ _ _ _ c.requires.standing p.ready p.places)
+    sent_start _ _ _ _ _ _ _ _ _ _ _ _ p.standing p.ready p.places
 
 pub skip_action-next-requires : goal.skip_action-next-requires
 skip_action-next-requires c =
     let a = c.args in
     let i = c.loop-out in
-    ready_there (scope_in a.types.now) false a.body.now (a.outs - i.out) i.at (omega arith) i.invariant.1.ready
+    ready_there (scope_in a.types.now) false a.body.now (a.outs - i.out) i.at (omega arith) i.invariant.ready
 
 pub put_one-requires : goal.put_one-requires
 put_one-requires c =
     let a = c.args in
     let i = c.loop-out in
-    let f = ready_first (scope_in a.types.now) false a.body.now (a.outs - i.out) i.at (omega arith) i.invariant.1.ready _ c.skip_action-next.ensures in
+    let f = ready_first (scope_in a.types.now) false a.body.now (a.outs - i.out) i.at (omega arith) i.invariant.ready _ c.skip_action-next.ensures in
     let t = c.loop-out-test.true in
-    let q = sent_places _ _ _ _ _ _ _ _ _ _ _ _ c.requires.outs_value _ _ _ _ t f i.invariant.1 in
-    record { standing = i.invariant.1.left.became.stands; k_lt_boxes = c.requires.k_lt_boxes; j_in_bounds = omega (arith, c.requires.outs_value, t); workable = workable f; env_fits = c.requires.env_fits; places = q }
+    let q = sent_places _ _ _ _ _ _ _ _ _ _ _ _ c.requires.outs_value _ _ _ _ t f i.invariant in
+    record { standing = i.invariant.left.became.stands; k_lt_boxes = c.requires.k_lt_boxes; j_in_bounds = omega (arith, c.requires.outs_value, t); workable = workable f; env_fits = c.requires.env_fits; places = q }
 
 pub loop-out-preserved : goal.loop-out-preserved
 loop-out-preserved c =
     let a = c.args in
     let i = c.loop-out in
-    let f = ready_first (scope_in a.types.now) false a.body.now (a.outs - i.out) i.at (omega arith) i.invariant.1.ready _ c.skip_action-next.ensures in
+    let f = ready_first (scope_in a.types.now) false a.body.now (a.outs - i.out) i.at (omega arith) i.invariant.ready _ c.skip_action-next.ensures in
     let t = c.loop-out-test.true in
-    (omega arith, sent_next _ _ _ _ _ _ _ _ _ _ _ _ c.requires.outs_value _ _ _ _ t f i.invariant.1 _ c.put_one.ensures)
+    sent_next _ _ _ _ _ _ _ _ _ _ _ _ c.requires.outs_value _ _ _ _ t f i.invariant _ c.put_one.ensures
 
 pub shape_of-state : goal.shape_of-state
-shape_of-state c = c.loop-out.invariant.1.left.became.long
+shape_of-state c = c.loop-out.invariant.left.became.long
 
 pub returns : goal.returns
-returns c = sent_last _ _ _ _ _ _ _ _ _ _ _ _ c.requires.outs_value _ _ _ c.loop-out-test.false c.loop-out.invariant.1
+returns c = sent_last _ _ _ _ _ _ _ _ _ _ _ _ c.requires.outs_value _ _ _ c.loop-out-test.false c.loop-out.invariant

@@ -1,5 +1,4 @@
 use mathlib.Core.Path.{◌≡◌}
-use Prim.Native.Nat.{◌-◌, ◌≤◌}
 use lib.ListN.{length}
 use Rattle.model.specs.NetworkFile.{box_at}
 use Rattle.table.specs.Table.{index_in}
@@ -9,7 +8,4 @@ use Rattle.taking.proofs.take_read.Given as goal
 abbrev pub invariant-loop-j : goal.invariant-loop-j
 invariant-loop-j l =
     let ws = (box_at l.net (index_in l.table l.c) l.k.0).ins in
-    (l.n ≡ length ws) × ((l.j ≤ l.n) × Left l.net l.table l.starts l.tokens l.initial.state l.c ws l.body l.j l.at l.state)
-
-abbrev pub decreases-loop-j : goal.decreases-loop-j
-decreases-loop-j l = l.n - l.j
+    (l.n ≡ length ws) × Left l.net l.table l.starts l.tokens l.initial.state l.c ws l.body l.j l.at l.state
