@@ -1,6 +1,6 @@
 -- What the fields of an accepted network file are like, by one induction over the walk.
 -- Assumes nothing.
-use mathlib.Core.Path.{◌≡◌, refl, sym, ◌∙◌, subst}
+use mathlib.Core.Path.{◌≡◌, refl, sym, ◌∙◌, ap, subst}
 use mathlib.Core.Bool.{Bool, true, false, cond}
 use mathlib.Core.List.{List, [], ◌∷◌, ◌++◌}
 use Prim.Native.Nat.{ℕ, zero, suc, ◌+◌, ◌-◌, ◌≤◌, ◌<◌}
@@ -11,7 +11,7 @@ use lib.ListN.{length, get_or, length-append, get_or-append}
 use lib.Seq.{get_or-append_seam}
 use borrow.Author.Tests.{eqb-true, leb-true, ltb-true, ltb-false, lt-ltb, le-ltb, ne_eqb}
 use Rattle.model.specs.declared.Field.{Field}
-use Rattle.model.specs.declared.Field.TheVariants.{At, Cut}
+use Rattle.std.specs.Prelude.{Option, Some, None}
 use Rattle.model.specs.Bytes.{two_at, stretch}
 use Rattle.model.specs.Values.{in_precision}
 use Rattle.model.specs.Expressions.{type_at, expression_limits}
@@ -21,7 +21,7 @@ use Rattle.model.specs.NetworkFile.{Index, every, variable_start, no_fields, fie
 
 -- ── one induction for all facts ──────────────────────────────────────────────────────────────
 
-module _ (s : List ℕ) (P : Index → Type 0) (kept : (x : Index) (tag start len at : ℕ) → P x → field_at s at ≡ At tag start len → field_fault s x tag (stretch s start len) ≡ 0 → P (add_field x tag at)) where
+module _ (s : List ℕ) (P : Index → Type 0) (kept : (x : Index) (f : Field) (at : ℕ) → P x → field_at s at ≡ Some f → field_fault s x f.tag (stretch s f.start f.len) ≡ 0 → P (add_field x f.tag at)) where
   abbrev Holds : Step → Type 0
   Holds (stop (good x)) = P x
   Holds (stop (refuse n p)) = Unit {0}
@@ -35,10 +35,10 @@ module _ (s : List ℕ) (P : Index → Type 0) (kept : (x : Index) (tag start le
       by_test true e = h (eqb-true n 0 e)
       by_test false e = tt
 
-  field_holds : (x : Index) (at : ℕ) (f : Field) → P x → field_at s at ≡ f → Holds (on_field s x at f)
+  field_holds : (x : Index) (at : ℕ) (f : Option Field) → P x → field_at s at ≡ f → Holds (on_field s x at f)
   unfolding on_field
-  field_holds x at Cut p e = tt
-  field_holds x at (At tag start len) p e = onward_holds (field_fault s x tag (stretch s start len)) at (add_field x tag at) (start + len) (kept x tag start len at p e)
+  field_holds x at None p e = tt
+  field_holds x at (Some f) p e = onward_holds (field_fault s x f.tag (stretch s f.start f.len)) at (add_field x f.tag at) (f.start + f.len) (kept x f at p e)
 
   step_holds : (x : Index) (at : ℕ) → P x → Holds (step s x at)
   unfolding step
@@ -377,23 +377,25 @@ module _ (s : List ℕ) (x : Index) (q : Valid s x) (at : ℕ) (inside : InFile 
 -- ── every field of an accepted file ──────────────────────────────────────────────────────────
 
 -- what a field that is there says of the file
-pub record Found (s : List ℕ) (tag start len at : ℕ) : Type 0 where
-  pub start_is : start ≡ at + 3
-  pub len_is : len ≡ two_at s (at + 1)
-  pub ends : start + len ≤ length s
-  pub body : stretch s start len ≡ body_at s at
+pub record Found (s : List ℕ) (f : Field) (at : ℕ) : Type 0 where
+  pub start_is : f.start ≡ at + 3
+  pub len_is : f.len ≡ two_at s (at + 1)
+  pub ends : f.start + f.len ≤ length s
+  pub body : stretch s f.start f.len ≡ body_at s at
   pub inside : InFile s at
 
-pub field_found : (s : List ℕ) (tag start len at : ℕ) → field_at s at ≡ At tag start len → Found s tag start len at
+pub field_found : (s : List ℕ) (f : Field) (at : ℕ) → field_at s at ≡ Some f → Found s f at
 unfolding field_at body_at
-field_found s tag start len at = by_head (ltb (length s) (at + 3)) (ltb (length s) (at + 3 + two_at s (at + 1))) refl
+field_found s f at = by_head (ltb (length s) (at + 3)) (ltb (length s) (at + 3 + two_at s (at + 1))) refl
   where
-    by_head : (b c : Bool) → ltb (length s) (at + 3 + two_at s (at + 1)) ≡ c → cond b Cut (cond c Cut (At (get_or s at 0) (at + 3) (two_at s (at + 1)))) ≡ At tag start len → Found s tag start len at
+    by_head : (b c : Bool) → ltb (length s) (at + 3 + two_at s (at + 1)) ≡ c
+        → cond b None (cond c None (Some (record { tag = get_or s at 0; start = at + 3; len = two_at s (at + 1) }))) ≡ Some f → Found s f at
     by_head true c h e = let z : ◌≡◌ {A = ℕ} 0 1 = cc in absurd (omega arith)
     by_head false true h e = let z : ◌≡◌ {A = ℕ} 0 1 = cc in absurd (omega arith)
     by_head false false h e =
-        let p : at + 3 ≡ start = cc in
-        let l : two_at s (at + 1) ≡ len = cc in
+        let is : ◌≡◌ {A = Field} (record { tag = get_or s at 0; start = at + 3; len = two_at s (at + 1) }) f = cc in
+        let p : at + 3 ≡ f.start = ap (λ (g : Field). g.start) is in
+        let l : two_at s (at + 1) ≡ f.len = ap (λ (g : Field). g.len) is in
         record { start_is = sym p; len_is = sym l; ends = omega (arith, p, l, ltb-false (length s) (at + 3 + two_at s (at + 1)) h); body = rw (← p, ← l); inside = record { whole = ltb-false _ _ h } }
 
 -- a limit on how many fields of a kind there are
@@ -423,10 +425,10 @@ module _ (s : List ℕ) where
   with_field x tag at q i (input p) = with_input s x q at i p
   with_field x tag at q i (output p) = with_output s x q at i p
 
-  pub valid_kept : (x : Index) (tag start len at : ℕ) → Valid s x → field_at s at ≡ At tag start len → field_fault s x tag (stretch s start len) ≡ 0 → Valid s (add_field x tag at)
-  valid_kept x tag start len at q e z =
-      let f = field_found s tag start len at e in
-      with_field x tag at q f.inside (added s x (body_at s at) tag (rw f.body at z))
+  pub valid_kept : (x : Index) (f : Field) (at : ℕ) → Valid s x → field_at s at ≡ Some f → field_fault s x f.tag (stretch s f.start f.len) ≡ 0 → Valid s (add_field x f.tag at)
+  valid_kept x f at q e z =
+      let g = field_found s f at e in
+      with_field x f.tag at q g.inside (added s x (body_at s at) f.tag (rw g.body at z))
 
   pub valid_none : Valid s no_fields
   unfolding no_fields

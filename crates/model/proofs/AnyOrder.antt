@@ -10,6 +10,7 @@ use lib.Dec.{eqb, eqb-suc-suc}
 use lib.Pow.{pow_pos}
 use borrow.Author.Tests.{eqb-true}
 use mathlib.Core.Logic.{◌≢◌}
+use Rattle.model.specs.declared.Fault.{Fault}
 use Rattle.model.specs.Network.{Net, State}
 use Rattle.model.specs.NetworkFile.{hit, count}
 use Rattle.model.specs.Cycles.{Ended, bits, has, is_order, marked_of, marked_set, Deed, mark, Finding, broken, still, moving, finding, run, halt, proceed, stop, later}
@@ -83,14 +84,14 @@ unfolding Demand3
 any_order s ts n e = orders_alike n (tokens_accepted s ts n e).one
 
 -- what the order check accepts is an order
-pub checked_order : (n : Net) (s : State) (ks : List ℕ) → ((k x : ℕ) → finding n s ≢ broken k x) → is_order (marked_set n s) ks ≡ true → Order n s ks
+pub checked_order : (n : Net) (s : State) (ks : List ℕ) → ((k : ℕ) (x : Fault) → finding n s ≢ broken k x) → is_order (marked_set n s) ks ≡ true → Order n s ks
 checked_order n s ks c e = record { calm = c; names = accepted-names n s ks e }
 
 -- the marked processes, lowest first, are an order
-pub own_order : (n : Net) (s : State) → ((k x : ℕ) → finding n s ≢ broken k x) → Order n s (marked_of n s)
+pub own_order : (n : Net) (s : State) → ((k : ℕ) (x : Fault) → finding n s ≢ broken k x) → Order n s (marked_of n s)
 own_order n s c = record { calm = c; names = λ k. refl }
 
-pub calm-moving : (n : Net) (s : State) → finding n s ≡ moving → (k x : ℕ) → finding n s ≢ broken k x
+pub calm-moving : (n : Net) (s : State) → finding n s ≡ moving → (k : ℕ) (x : Fault) → finding n s ≢ broken k x
 calm-moving n s e k x p = let z : ◌≡◌ {A = ℕ} 0 1 = cc in omega arith
 
 -- a state with what was done since the load

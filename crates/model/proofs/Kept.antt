@@ -3,7 +3,7 @@
 -- Assumes nothing.
 use mathlib.Core.Path.{◌≡◌, refl, ap, ◌∙◌, sym, ap₂}
 use mathlib.Core.Bool.{Bool, true, false, not, ◌&&◌, ◌||◌, cond}
-use mathlib.Core.Option.{Option, none, some}
+use Rattle.std.specs.Prelude.{Option, Some, None, Ok, Err}
 use mathlib.Core.List.{List, [], ◌∷◌, ◌++◌, map, zip_with, append-nil, append_assoc}
 use Prim.Native.Nat.{ℕ, zero, suc, ◌+◌, ◌-◌, ◌^◌, ◌≤◌, ◌<◌, ◌*◌, ◌/◌, ◌%◌}
 use native.Mathlib.Omega.{arith}
@@ -16,10 +16,8 @@ use borrow.Author.Tests.{eqb-true, leb-true, ltb-true, lt-ltb, eq-eqb, ne_eqb, l
 use lib.Signed.{mag}
 use Rattle.model.specs.declared.Ty.{Ty}
 use Rattle.model.specs.declared.Token.{Token}
-use Rattle.model.specs.declared.Outcome.{Outcome}
-use Rattle.model.specs.declared.Outcome.TheVariants.{Value, Fault}
 use Rattle.model.specs.Bytes.{signed_of, two_at, two_bytes, four_at, four_bytes, value_at, value_bytes}
-use Rattle.model.specs.Values.{no_type, is_plain, is_dc, well_sized, carried, same_type, within, read_back, eq_z}
+use Rattle.model.specs.Values.{Outcome, no_type, is_plain, is_dc, well_sized, carried, same_type, within, read_back, eq_z}
 use Rattle.model.specs.Expressions.{Exp, Env, Typed, typed, ill, type_of, precise, expression_limits, depth_of, value_of}
 use Rattle.model.specs.Rules.{Pattern, ignore, any, only, Action, nothing, bare, send, Fit, fits, fails, also, fit_if, tag_fits, matched_type, matched_types, scope_of, has_type, action_fits, actions_fit, action_limits, rule_fits, size_of_action}
 use Rattle.model.specs.Network.{Variable, Box, Proc, box, input, output, Net, Own, vars, taken, got, State, no_token, nobody, wire, capacity, proc, rule, queue, own, vars_of, taken_of, got_of, ins_of, outs_of, wire_types, variable_types, shape_of, fresh, loaded, no_wire}
@@ -95,14 +93,14 @@ pub record GoodDeed (n : Net) (p : Proc) (d : Deed) : Type 0 where
 
 -- nothing, or a token that fits
 abbrev Sent : Ty → Option Token → Type 0
-Sent t none = Unit {0}
-Sent t (some k) = token_fits t k ≡ true
+Sent t None = Unit {0}
+Sent t (Some k) = token_fits t k ≡ true
 
 move_fit : (n : Net) (v : ℕ) (ws : List ℕ) (x : Option Token) (ts : List (Option Token)) (w : ℕ) → Sent (wire n v).ty x
     → tokens_fit (wire n w).ty (on_wire w (moves ws ts)) ≡ true → tokens_fit (wire n w).ty (on_wire w (moves (v ∷ ws) (x ∷ ts))) ≡ true
 unfolding moves on_wire joined tokens_fit
-move_fit n v ws none ts w p q = q
-move_fit n v ws (some t) ts w p q = same_or v w (λ e. rw (eq-eqb v w e) (both (token_fits (wire n w).ty t) _ (rw e at p) q)) (λ f. rw (ne_eqb v w f) q)
+move_fit n v ws None ts w p q = q
+move_fit n v ws (Some t) ts w p q = same_or v w (λ e. rw (eq-eqb v w e) (both (token_fits (wire n w).ty t) _ (rw e at p) q)) (λ f. rw (ne_eqb v w f) q)
 
 -- ── what a fit says ──────────────────────────────────────────────────────────────────────────
 
@@ -140,8 +138,8 @@ plain_carried t e = unfold is_plain carried is_dc in
 -- a fault leaves 0
 or_zero_within : (t : Ty) (x : Outcome) → 1 ≤ t.p → Of t x → within t (or_zero x) ≡ true
 unfolding or_zero read_back signed_of
-or_zero_within t (Value u z) h p = p.1
-or_zero_within t (Fault n) h p =
+or_zero_within t (Ok v) h p = p.1
+or_zero_within t (Err x) h p =
     let back : read_back t 0 ≡ pos 0 = cases (eqb t.kind 1) (λ e. rw (e, lt-ltb 0 (2 ^ (t.p - 1)) (pow_pos (t.p - 1)))) (λ e. rw e) in
     rw back at (read_within t 0 h (pow_pos t.p))
 
@@ -277,7 +275,7 @@ module _ (n : Net) (gn : GoodNet n) (s : State) (gs : GoodState n s) where
   deed_of_lem (input w ts) o r gp go e =
       let l = ltb-true (taken_of o) (length ts) (and_left (ltb (taken_of o) (length ts)) (not (full n s w)) (flag_fires _ r (unfold mark_of in e))) in
       record {
-        put = λ v. move_fit n w [] (some (get_or ts (taken_of o) no_token)) [] v (fit_at (wire n w).ty ts gp.1 (taken_of o) l) refl;
+        put = λ v. move_fit n w [] (Some (get_or ts (taken_of o) no_token)) [] v (fit_at (wire n w).ty ts gp.1 (taken_of o) l) refl;
         keeps = record { is = refl; most = l };
       }
   deed_of_lem (output w room) o r gp go e =

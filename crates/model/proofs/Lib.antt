@@ -1,5 +1,6 @@
 -- Theorems about the definitions.
 pub mod Workbook
+pub mod Numbers
 pub mod Tests
 pub mod Wrapping
 pub mod Typing

@@ -3,7 +3,7 @@
 use mathlib.Core.Path.{◌≡◌, refl, sym, ap, ap₂, ◌∙◌}
 use mathlib.Core.Logic.{◌≢◌}
 use mathlib.Core.Bool.{Bool, true, false, cond}
-use mathlib.Core.Option.{Option, none, some}
+use Rattle.std.specs.Prelude.{Option, Some, None}
 use mathlib.Core.List.{List, [], ◌∷◌, ◌++◌, append-nil, append_assoc}
 use Prim.Native.Nat.{ℕ, zero, suc, ◌+◌, ◌≤◌, ◌<◌}
 use native.Mathlib.Omega.{arith}
@@ -36,8 +36,8 @@ pub moves_count : (ws : List ℕ) (ts : List (Option Token)) (w : ℕ) → lengt
 unfolding moves on_wire count
 moves_count [] ts w = omega arith
 moves_count (v ∷ ws) [] w = omega arith
-moves_count (v ∷ ws) (none ∷ ts) w = omega (arith, moves_count ws ts w)
-moves_count (v ∷ ws) (some t ∷ ts) w = omega (arith, moves_count ws ts w, length_joined (eqb v w) t (on_wire w (moves ws ts)))
+moves_count (v ∷ ws) (None ∷ ts) w = omega (arith, moves_count ws ts w)
+moves_count (v ∷ ws) (Some t ∷ ts) w = omega (arith, moves_count ws ts w, length_joined (eqb v w) t (on_wire w (moves ws ts)))
 
 pub count_append : (w : ℕ) (xs ys : List ℕ) → count w (xs ++ ys) ≡ count w xs + count w ys
 unfolding count
@@ -113,9 +113,9 @@ look_frame : (s s' : State) (ws : List ℕ) (ps : List Bool)
 unfolding look seen moves on_wire
 look_frame s s' [] ps h = refl
 look_frame s s' (v ∷ ws) [] h = refl
-look_frame s s' (v ∷ ws) (false ∷ ps) h = ap (λ (xs : List (Option Token)). none ∷ xs) (look_frame s s' ws ps h)
+look_frame s s' (v ∷ ws) (false ∷ ps) h = ap (λ (xs : List (Option Token)). None ∷ xs) (look_frame s s' ws ps h)
 look_frame s s' (v ∷ ws) (true ∷ ps) h =
-    ap₂ (λ (t : Token) (xs : List (Option Token)). some t ∷ xs)
+    ap₂ (λ (t : Token) (xs : List (Option Token)). Some t ∷ xs)
     (h v (omega (arith, length_joined (eqb v v) (oldest (queue s v)) (on_wire v (moves ws (look s ws ps))), hit_same v v refl)))
     (look_frame s s' ws ps (λ w g. h w (omega (arith, g, length_joined (eqb v w) (oldest (queue s v)) (on_wire w (moves ws (look s ws ps)))))))
 

@@ -3,7 +3,7 @@
 use mathlib.Core.Path.{◌≡◌, refl, ◌∙◌, subst, sym, ap}
 use mathlib.Core.Logic.{◌≢◌}
 use mathlib.Core.Bool.{Bool, true, false, not, ◌&&◌}
-use mathlib.Core.Option.{Option, none, some}
+use Rattle.std.specs.Prelude.{Option, Some, None, Ok, Err}
 use mathlib.Core.List.{List, [], ◌∷◌, map, ◌++◌, append-nil, append_assoc}
 use Prim.Native.Nat.{ℕ, zero, suc, ◌+◌, ◌≤◌, ◌<◌}
 use native.Mathlib.Omega.{arith}
@@ -11,8 +11,7 @@ use lib.Dec.{eqb, ltb}
 use lib.ListN.{length, get_or, drop, length-map, get_or-map, drop_of_length-le}
 use borrow.Author.Tests.{leb-false, eq-eqb, ne_eqb}
 use Rattle.model.specs.declared.Token.{Token}
-use Rattle.model.specs.declared.Outcome.{Outcome}
-use Rattle.model.specs.declared.Outcome.TheVariants.{Value, Fault}
+use Rattle.model.specs.Values.{Outcome}
 use Rattle.model.specs.Expressions.{Env, value_of}
 use Rattle.model.specs.Rules.{Rule, Pattern, Action, nothing, bare, send}
 use Rattle.model.specs.Network.{Proc, box, input, output, Box, Net, State, Own, queue, own, proc, capacity, rule, vars_of, taken_of, got_of, ins_of, outs_of, no_token, no_wire, loaded, no_tokens}
@@ -37,20 +36,20 @@ no_move : {A : Type 0} (w : ℕ) → 1 ≤ length (on_wire w []) → A
 no_move w h = unfold on_wire in absurd (omega arith)
 
 -- a move on wire w comes from the first port or from a later one
-from_port : (P : ℕ → Type 0) (v w : ℕ) (ws : List ℕ) (x : Option Token) (ts : List (Option Token)) → (x ≢ none → P v)
+from_port : (P : ℕ → Type 0) (v w : ℕ) (ws : List ℕ) (x : Option Token) (ts : List (Option Token)) → (x ≢ None → P v)
     → (1 ≤ length (on_wire w (moves ws ts)) → P w) → 1 ≤ length (on_wire w (moves (v ∷ ws) (x ∷ ts))) → P w
 unfolding moves on_wire
-from_port P v w ws none ts f g h = g h
-from_port P v w ws (some t) ts f g h =
+from_port P v w ws None ts f g h = g h
+from_port P v w ws (Some t) ts f g h =
     same_or v w (λ e. subst P e (f (λ q. (let z : ◌≡◌ {A = ℕ} 0 1 = cc in omega arith)))) (λ ne. g (omega (arith, h, length_joined (eqb v w) t (on_wire w (moves ws ts)), hit_other v w ne)))
 
-result-writes : (en : Env) (a : Action) → result en a ≢ none → writes a ≡ true
+result-writes : (en : Env) (a : Action) → result en a ≢ None → writes a ≡ true
 unfolding result writes
 result-writes en nothing h = absurd (h refl)
 result-writes en (bare t) h = refl
 result-writes en (send t e) h = refl
 
-read_nonempty : (p : Pattern) (q : List Token) → ready_in p q ≡ true → seen (reads p) q ≢ none → 1 ≤ length q
+read_nonempty : (p : Pattern) (q : List Token) → ready_in p q ≡ true → seen (reads p) q ≢ None → 1 ≤ length q
 read_nonempty p q e h = unfold ready_in seen in
     cases (reads p) (λ c. nonempty q (and_left (not (empty q)) (matches p (oldest q)) (rw c at e))) (λ c. absurd (h (rw c)))
 
@@ -80,8 +79,8 @@ attempt_fires false m r e = let z : ◌≡◌ {A = ℕ} 0 1 = cc in absurd (omeg
 
 faultless_fires : (o : Outcome) (m : Mark) (r : ℕ) → faultless o m ≡ fires r → m ≡ fires r
 unfolding faultless
-faultless_fires (Value t z) m r e = e
-faultless_fires (Fault x) m r e = let z : ◌≡◌ {A = ℕ} 0 1 = cc in absurd (omega arith)
+faultless_fires (Ok v) m r e = e
+faultless_fires (Err x) m r e = let z : ◌≡◌ {A = ℕ} 0 1 = cc in absurd (omega arith)
 
 actions_fire : (en : Env) (as' : List Action) (m : Mark) (r : ℕ) → actions_of en as' m ≡ fires r → m ≡ fires r
 unfolding actions_of
@@ -92,10 +91,10 @@ actions_fire en (send t x ∷ as') m r e = actions_fire en as' m r (faultless_fi
 
 guarded_fires : (en : Env) (u : Rule) (k : ℕ) (o : Outcome) (r : ℕ) → guarded en u k o ≡ fires r → k ≡ r
 unfolding guarded chosen
-guarded_fires en u k (Value t z) r e =
+guarded_fires en u k (Ok v) r e =
     let h : fires k ≡ fires r = actions_fire en u.sets (fires k) r (actions_fire en u.outs _ r (attempt_fires _ (chosen en u k) r e).1) in
     cc
-guarded_fires en u k (Fault x) r e = let z : ◌≡◌ {A = ℕ} 0 1 = cc in absurd (omega arith)
+guarded_fires en u k (Err x) r e = let z : ◌≡◌ {A = ℕ} 0 1 = cc in absurd (omega arith)
 
 or_else_fires : {A : Type 0} (x y : Mark) (r : ℕ) → or_else x y ≡ fires r → (x ≡ fires r → A) → (y ≡ fires r → A) → A
 unfolding or_else
@@ -142,7 +141,7 @@ mark_ready n s (box b) r o e =
     (λ w. ins_ready s b.ins u.ins w y.0, λ sees w. outs_ready n s (env_of n b u sees (vars_of o)) b.outs u.outs w y.2)
 mark_ready n s (input v ts) r o e =
     let f = not-true (full n s v) (and_right (ltb (taken_of o) (length ts)) (not (full n s v)) (flag_fires _ r (unfold mark_of in e))) in
-    (λ w. no_move w, λ sees w. from_port (λ (u : ℕ). length (queue s u) < capacity n u) v w [] (some (get_or ts (taken_of o) no_token)) [] (λ x. not_full n s v f) (no_move w))
+    (λ w. no_move w, λ sees w. from_port (λ (u : ℕ). length (queue s u) < capacity n u) v w [] (Some (get_or ts (taken_of o) no_token)) [] (λ x. not_full n s v f) (no_move w))
 mark_ready n s (output v c) r o e =
     let f = nonempty (queue s v) (and_left (not (empty (queue s v))) (ltb (length (got_of o)) c) (flag_fires _ r (unfold mark_of in e))) in
     (λ w. from_port (λ (u : ℕ). 1 ≤ length (queue s u)) v w [] (seen true (queue s v)) [] (λ x. f) (no_move w), λ sees w. no_move w)

@@ -12,10 +12,9 @@ use lib.Pow.{pow_pos}
 use lib.ListN.{get_or}
 use borrow.Author.Tests.{eqb-true, leb-true, leb-false, le-leb, lt-leb}
 use Rattle.model.specs.declared.Ty.{Ty}
-use Rattle.model.specs.declared.Outcome.{Outcome}
-use Rattle.model.specs.declared.Outcome.TheVariants.{Value, Fault}
+use Rattle.std.specs.Prelude.{Ok, Err}
 use Rattle.model.specs.Bytes.{mod_z}
-use Rattle.model.specs.Values.{bool, no_type, is_bool, is_number, is_plain, well_sized, in_precision, same_type, within, least, greatest, pattern, wrap, truth, eq_z, is_true, arithmetic, bitwise, compare, logic, apply, apply_one}
+use Rattle.model.specs.Values.{bool, no_type, is_bool, is_number, is_plain, well_sized, in_precision, same_type, within, least, greatest, pattern, wrap, truth, eq_z, is_true, Outcome, gives, arithmetic, bitwise, compare, logic, apply, apply_one}
 use Rattle.model.specs.Expressions.{Exp, literal, matched, variable, cast, one, two, if, Typed, typed, ill, judged, operand_at, one_type, two_type, type_of, precise, Env, then, value_of}
 use Rattle.model.proofs.Tests.{and_left, and_right, and₂, and₃, cases}
 use Rattle.model.proofs.Wrapping.{pattern_lt, read_within, wrap_within}
@@ -27,8 +26,8 @@ pub record Fine (t : Ty) : Type 0 where
 
 -- what works out to a value of type t, or to a fault
 abbrev pub Of : Ty → Outcome → Type 0
-Of t (Value u z) = (u ≡ t) × (within t z ≡ true)
-Of t (Fault n) = Unit {0}
+Of t (Ok v) = (v.ty ≡ t) × (within t v.value ≡ true)
+Of t (Err x) = Unit {0}
 
 abbrev pub Good : Ty → Outcome → Type 0
 Good t x = Fine t × Of t x
@@ -108,13 +107,13 @@ pub record GoodEnv (en : Env) : Type 0 where
   pub ins : (i : ℕ) → is_plain (get_or en.scope.ins i no_type) ≡ true → Named (get_or en.scope.ins i no_type) (get_or en.ins i (pos 0))
   pub vars : (j : ℕ) → is_plain (get_or en.scope.vars j no_type) ≡ true → Named (get_or en.scope.vars j no_type) (get_or en.vars j (pos 0))
 
-named_good : (t u : Ty) (z : ℤ) → judged (is_plain t) t ≡ typed u → (is_plain t ≡ true → Named t z) → Good u (Value t z)
-named_good t u z e f = judged_good (is_plain t) t u (Value t z) e (λ h. (record { plain = h; low = (f h).low }, (refl, (f h).fits)))
+named_good : (t u : Ty) (z : ℤ) → judged (is_plain t) t ≡ typed u → (is_plain t ≡ true → Named t z) → Good u (gives t z)
+named_good t u z e f = judged_good (is_plain t) t u (gives t z) e (λ h. (record { plain = h; low = (f h).low }, (refl, (f h).fits)))
 
 then_good : (t v : Ty) (x : Outcome) (f : Ty → ℤ → Outcome) → Good t x → ((a : ℤ) → Good v (f t a)) → Good v (then x f)
 unfolding then
-then_good t v (Value u a) f p g = rw p.1.0 (g a)
-then_good t v (Fault n) f p g = ((g (pos 0)).0, tt)
+then_good t v (Ok u) f p g = rw p.1.0 (g u.value)
+then_good t v (Err x) f p g = ((g (pos 0)).0, tt)
 
 -- not and lnot
 one_good : (o : ℕ) (t v : Ty) (a : ℤ) → Fine t → one_type o t ≡ typed v → Good v (apply_one o t a)
@@ -143,13 +142,13 @@ two_good o t u v a b f e = unfold two_type in
 pub value_of_lem : (en : Env) → GoodEnv en → (e : Exp) → precise e ≡ true → (t : Ty) → type_of en.scope e ≡ typed t → Good t (value_of en e)
 unfolding type_of precise value_of
 value_of_lem en g (literal u z) p t q =
-    judged_good (is_plain u && within u z) u t (Value u z) q (λ h. (let a = and₂ (is_plain u) (within u z) h in (record { plain = a.0; low = in-low u p }, (refl, a.1))))
+    judged_good (is_plain u && within u z) u t (gives u z) q (λ h. (let a = and₂ (is_plain u) (within u z) h in (record { plain = a.0; low = in-low u p }, (refl, a.1))))
 value_of_lem en g (matched i) p t q = named_good (get_or en.scope.ins i no_type) t _ q (g.ins i)
 value_of_lem en g (variable j) p t q = named_good (get_or en.scope.vars j no_type) t _ q (g.vars j)
 value_of_lem en g (cast u e) p t q =
     let ps = and₂ (in_precision u) (precise e) p in
     operand_typed 3 (type_of en.scope e) _ t q (λ v is r. then_good v t (value_of en e) _ (value_of_lem en g e ps.1 v is)
-    (λ a. judged_good (is_number u && is_number v) u t (Value u (wrap u a)) r
+    (λ a. judged_good (is_number u && is_number v) u t (gives u (wrap u a)) r
     (λ h. (record { plain = is_number_lem u (and_left (is_number u) (is_number v) h); low = in-low u ps.0 }, (refl, wrap_within u a (in-low u ps.0))))))
 value_of_lem en g (one c e) p t q =
     operand_typed 1 (type_of en.scope e) _ t q (λ u is r.

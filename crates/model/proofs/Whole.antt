@@ -11,7 +11,7 @@ use borrow.Author.Tests.{eqb-true, leb-true, ltb-true, ltb-false}
 use Rattle.model.specs.declared.Ty.{Ty}
 use Rattle.model.specs.declared.Token.{Token}
 use Rattle.model.specs.declared.Field.{Field}
-use Rattle.model.specs.declared.Field.TheVariants.{At, Cut}
+use Rattle.std.specs.Prelude.{Option, Some, None}
 use Rattle.model.specs.Bytes.{two_at, stretch}
 use Rattle.model.specs.Values.{no_type}
 use Rattle.model.specs.Network.{Box, Proc, box, input, output, Net, wire, nobody, no_wire, ins_of, outs_of}
@@ -43,14 +43,14 @@ or_refuse_good false n p v a e = let z : ◌≡◌ {A = ℕ} 0 1 = cc in absurd 
 
 -- ── the tokens of an accepted token file ─────────────────────────────────────────────────────
 
-input_fits : (t : Ty) (s : List ℕ) (at : ℕ) (f : Field) (r : List Token × ℕ) → input_tokens t s at f ≡ good r → tokens_fit t r.0 ≡ true
+input_fits : (t : Ty) (s : List ℕ) (at : ℕ) (f : Option Field) (r : List Token × ℕ) → input_tokens t s at f ≡ good r → tokens_fit t r.0 ≡ true
 unfolding input_tokens token_field
-input_fits t s at Cut r e = let z : ◌≡◌ {A = ℕ} 0 1 = cc in absurd (omega arith)
-input_fits t s at (At tag start len) r e =
-    let b = stretch s start len in
-    let h = or_refuse_good (eqb tag 32 && eqb (length b % 5) 0 && tokens_fit t (tokens_in b)) 5 at (good (tokens_in b, start + len)) r e in
-    let q : tokens_in b ≡ r.0 = (let g : (tokens_in b, start + len) ≡ r = good_same h.1 in ap (λ (x : List Token × ℕ). x.0) g) in
-    rw (← q) (and₃ (eqb tag 32) (eqb (length b % 5) 0) (tokens_fit t (tokens_in b)) h.0).2
+input_fits t s at None r e = let z : ◌≡◌ {A = ℕ} 0 1 = cc in absurd (omega arith)
+input_fits t s at (Some f) r e =
+    let b = stretch s f.start f.len in
+    let h = or_refuse_good (eqb f.tag 32 && eqb (length b % 5) 0 && tokens_fit t (tokens_in b)) 5 at (good (tokens_in b, f.start + f.len)) r e in
+    let q : tokens_in b ≡ r.0 = (let g : (tokens_in b, f.start + f.len) ≡ r = good_same h.1 in ap (λ (x : List Token × ℕ). x.0) g) in
+    rw (← q) (and₃ (eqb f.tag 32) (eqb (length b % 5) 0) (tokens_fit t (tokens_in b)) h.0).2
   where
     good_same : {A : Type 0} {a b : A} → good a ≡ good b → a ≡ b
     good_same e = cc

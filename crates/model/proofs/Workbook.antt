@@ -11,8 +11,7 @@ use lib.IntN.{ℤ, pos, negsuc}
 use native.Mathlib.Omega.{arith}
 use borrow.Author.Tests.{le-leb}
 use Rattle.model.specs.declared.Ty.{Ty}
-use Rattle.model.specs.declared.Outcome.{Outcome}
-use Rattle.model.specs.declared.Outcome.TheVariants.{Value, Fault}
+use Rattle.model.specs.Values.{Outcome, gives}
 use Rattle.model.specs.Bytes.{value_bytes}
 use Rattle.model.specs.Values.{bool}
 use Rattle.model.specs.Expressions.{Read, bad, got, Exp, literal, matched, two, expression, value_of}
@@ -72,6 +71,7 @@ data Shown : Type 0 where
   sets : List Answer → Shown
   answers : Answer → Shown
   works : Outcome → Shown
+  unread : Shown
   prints : List ℕ → Shown
   lies : Stretch → Shown
 
@@ -111,15 +111,16 @@ unfoldable lit : Ty → ℤ → List ℕ
 unfolding opened
 lit t z = 0 ∷ t.kind ∷ t.p ∷ value_bytes z
 
-unfoldable value_read : Read Exp → Outcome
+-- its value, where it is an expression
+unfoldable value_read : Read Exp → Shown
 unfolding opened
-value_read bad = Fault 1
-value_read (got e n) = value_of (record { scope = record { ins = []; vars = [] }; ins = []; vars = [] }) e
+value_read bad = unread
+value_read (got e n) = works (value_of (record { scope = record { ins = []; vars = [] }; ins = []; vars = [] }) e)
 
 -- the expression in bytes, worked out
 unfoldable worked : List ℕ → Shown
 unfolding value_read opened
-worked b = works (value_read (expression b))
+worked b = value_read (expression b)
 
 -- an operator over two literals of one type
 unfoldable calc : ℕ → Ty → ℤ → ℤ → Shown
@@ -201,21 +202,21 @@ rows =
     ∷ record { shown = answers (ran (inc 1) three 56 6); stated = answers (spent 6) }
     ∷ record { shown = answers (ran (inc 1) three 56 7); stated = answers (idle 7) }
     -- P4, -7 / 2 = -3 and -7 mod 2 = -1
-    ∷ record { shown = calc 13 (signed 8) (negsuc 6) (pos 2); stated = works (Value (signed 8) (negsuc 2)) }
-    ∷ record { shown = calc 14 (signed 8) (negsuc 6) (pos 2); stated = works (Value (signed 8) (negsuc 0)) }
+    ∷ record { shown = calc 13 (signed 8) (negsuc 6) (pos 2); stated = works (gives (signed 8) (negsuc 2)) }
+    ∷ record { shown = calc 14 (signed 8) (negsuc 6) (pos 2); stated = works (gives (signed 8) (negsuc 0)) }
     -- P5, signed 8: -128 / -1 = -128
-    ∷ record { shown = calc 13 (signed 8) (negsuc 127) (negsuc 0); stated = works (Value (signed 8) (negsuc 127)) }
+    ∷ record { shown = calc 13 (signed 8) (negsuc 127) (negsuc 0); stated = works (gives (signed 8) (negsuc 127)) }
     -- P6, unsigned 4: 15 + 1 = 0, 0 - 1 = 15
-    ∷ record { shown = calc 10 (unsigned 4) (pos 15) (pos 1); stated = works (Value (unsigned 4) (pos 0)) }
-    ∷ record { shown = calc 11 (unsigned 4) (pos 0) (pos 1); stated = works (Value (unsigned 4) (pos 15)) }
+    ∷ record { shown = calc 10 (unsigned 4) (pos 15) (pos 1); stated = works (gives (unsigned 4) (pos 0)) }
+    ∷ record { shown = calc 11 (unsigned 4) (pos 0) (pos 1); stated = works (gives (unsigned 4) (pos 15)) }
     -- P7, signed 4: 7 * 7 = 1
-    ∷ record { shown = calc 12 (signed 4) (pos 7) (pos 7); stated = works (Value (signed 4) (pos 1)) }
+    ∷ record { shown = calc 12 (signed 4) (pos 7) (pos 7); stated = works (gives (signed 4) (pos 1)) }
     -- P8, signed 8: -2 >> 1 = 127
-    ∷ record { shown = worked (19 ∷ (lit (signed 8) (negsuc 1) ++ lit (unsigned 5) (pos 1))); stated = works (Value (signed 8) (pos 127)) }
+    ∷ record { shown = worked (19 ∷ (lit (signed 8) (negsuc 1) ++ lit (unsigned 5) (pos 1))); stated = works (gives (signed 8) (pos 127)) }
     -- P9, unsigned 4: 12 lnand 10 = 7
-    ∷ record { shown = calc 17 (unsigned 4) (pos 12) (pos 10); stated = works (Value (unsigned 4) (pos 7)) }
+    ∷ record { shown = calc 17 (unsigned 4) (pos 12) (pos 10); stated = works (gives (unsigned 4) (pos 7)) }
     -- P10, cast of signed 8 -1 to unsigned 4 = 15
-    ∷ record { shown = worked (3 ∷ 2 ∷ 4 ∷ lit (signed 8) (negsuc 0)); stated = works (Value (unsigned 4) (pos 15)) }
+    ∷ record { shown = worked (3 ∷ 2 ∷ 4 ∷ lit (signed 8) (negsuc 0)); stated = works (gives (unsigned 4) (pos 15)) }
     -- P11 in two states: the wire of the box wired to itself empty, and full
     ∷ record { shown = sets (history loop [] 1 (start loop [] 6) ++ history loop [] 1 (1 ∷ 0 ∷ 0 ∷ 0 ∷ 0 ∷ 5 ∷ [])); stated = sets (map marks (0 ∷ 0 ∷ [])) }
     -- P12, the empty network is idle after 0

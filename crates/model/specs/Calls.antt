@@ -1,24 +1,15 @@
 -- The public calls: from all arguments to the answer and to the lent bytes afterwards. Checks go 2 for length, 2 for budget, then field by
 -- field, then 3, 5, 6 for the state, 7 (not at a load), 6 for the output file, 9, 8. A refusal changes no lent byte.
 -- Assumes nothing.
-use Rattle.std.specs.Prelude.{ℕ, zero, suc, ◌+◌, ◌-◌, ◌*◌, Bool, true, false, not, cond, ◌&&◌, ◌||◌, List, [], ◌∷◌, ◌++◌, leb, ltb, eqb, get_or, drop, length, replicate}
+use Rattle.std.specs.Prelude.{ℕ, zero, suc, ◌+◌, ◌-◌, ◌*◌, Bool, true, false, not, cond, ◌&&◌, ◌||◌, List, [], ◌∷◌, ◌++◌, leb, ltb, eqb, get_or, drop, length, replicate, Result, Ok, Err, ⊤}
 use Rattle.model.specs.declared.Token.{Token}
 use Rattle.model.specs.declared.Refusal.{Refusal}
 use Rattle.model.specs.declared.Ending.{Ending}
 use Rattle.model.specs.declared.Ending.TheVariants as ending
-use Rattle.model.specs.declared.CheckAnswer.{CheckAnswer}
-use Rattle.model.specs.declared.CheckAnswer.TheVariants as check
-use Rattle.model.specs.declared.LoadAnswer.{LoadAnswer}
-use Rattle.model.specs.declared.LoadAnswer.TheVariants as load
-use Rattle.model.specs.declared.MarkAnswer.{MarkAnswer}
-use Rattle.model.specs.declared.MarkAnswer.TheVariants as mark
-use Rattle.model.specs.declared.Marked.{Marked}
-use Rattle.model.specs.declared.CycleAnswer.{CycleAnswer}
-use Rattle.model.specs.declared.CycleAnswer.TheVariants as cycle
-use Rattle.model.specs.declared.RunAnswer.{RunAnswer}
-use Rattle.model.specs.declared.RunAnswer.TheVariants as run
-use Rattle.model.specs.declared.WriteAnswer.{WriteAnswer}
-use Rattle.model.specs.declared.WriteAnswer.TheVariants as write
+use Rattle.model.specs.declared.Ran.{Ran}
+use Rattle.model.specs.declared.Turn.{Turn}
+use Rattle.model.specs.declared.Turn.TheVariants as turn
+use Rattle.model.specs.Reasons.{fault_number, reason_number}
 use Rattle.model.specs.Network.{Net, State, loaded}
 use Rattle.model.specs.NetworkFile.{Index, Verdict, good, refuse, next, or_refuse, by_verdict, network, net_of, Stretch, rule_stretch}
 use Rattle.model.specs.States.{token_file, input_types, bytes_of, state_size, state_fits, state_in, output_file}
@@ -47,38 +38,38 @@ pub record After : Type 0 where
 
 -- a refusal reports 0 cycles
 unfoldable pub refusal : Refusal → Answer
-refusal r = refused r.number r.place 0
+refusal r = refused (reason_number r.reason) r.place 0
 
-unfoldable pub said_check : CheckAnswer → Answer  -- of check
-said_check check.Accepted = accepted
-said_check (check.Refused r) = refusal r
+unfoldable pub said_check : Result ⊤ Refusal → Answer  -- of check
+said_check (Ok u) = accepted
+said_check (Err r) = refusal r
 
-unfoldable pub said_load : LoadAnswer → Answer  -- of load
-said_load (load.Loaded size) = loaded_with size
-said_load (load.Refused r) = refusal r
+unfoldable pub said_load : Result ℕ Refusal → Answer  -- of load
+said_load (Ok size) = loaded_with size
+said_load (Err r) = refusal r
 
-unfoldable pub said_mark : MarkAnswer → Answer  -- of mark
-said_mark (mark.Marks set) = marks set
-said_mark (mark.Refused r) = refusal r
+unfoldable pub said_mark : Result ℕ Refusal → Answer  -- of mark
+said_mark (Ok set) = marks set
+said_mark (Err r) = refusal r
 
-unfoldable pub said_cycle : CycleAnswer → Answer  -- of cycle
-said_cycle cycle.Done = done 1
-said_cycle cycle.Idle = idle 0
-said_cycle (cycle.Refused r) = refusal r
+unfoldable pub said_cycle : Result Turn Refusal → Answer  -- of cycle
+said_cycle (Ok turn.Done) = done 1
+said_cycle (Ok turn.Idle) = idle 0
+said_cycle (Err r) = refusal r
 
 -- a fault in a run is refusal 9 with the cycles done before it
 unfoldable pub said_ending : Ending → ℕ → Answer
 said_ending ending.Idle c = idle c
 said_ending ending.Spent c = spent c
-said_ending (ending.Fault n b) c = refused n b c
+said_ending (ending.Fault x b) c = refused (fault_number x) b c
 
-unfoldable pub said_run : RunAnswer → Answer  -- of run
-said_run (run.Ended e c) = said_ending e c
-said_run (run.Refused r) = refusal r
+unfoldable pub said_run : Result Ran Refusal → Answer  -- of run
+said_run (Ok r) = said_ending r.ending r.cycles
+said_run (Err r) = refusal r
 
-unfoldable pub said_write : WriteAnswer → Answer  -- of write_outputs
-said_write (write.Written size) = written size
-said_write (write.Refused r) = refusal r
+unfoldable pub said_write : Result ℕ Refusal → Answer  -- of write_outputs
+said_write (Ok size) = written size
+said_write (Err r) = refusal r
 
 -- ── the checks that calls share ──────────────────────────────────────────────────────────────
 
@@ -143,7 +134,7 @@ no_marks a = record { answer = a; rules = replicate 32 16 }
 
 -- a fault is refused, with the lowest faulting box
 unfoldable pub marks_of : Net → State → C.Finding → Marking
-marks_of n s (C.broken k x) = no_marks (refused x k 0)
+marks_of n s (C.broken k x) = no_marks (refused (fault_number x) k 0)
 marks_of n s C.still = record { answer = marks (C.marked_set n s); rules = C.rule_numbers n s }
 marks_of n s C.moving = record { answer = marks (C.marked_set n s); rules = C.rule_numbers n s }
 
@@ -155,7 +146,7 @@ mark_call s ts st =
 
 -- fault, then order check, then idle, then the firings
 unfoldable pub cycle_of : List ℕ → List ℕ → Net → State → C.Finding → After
-cycle_of st order n s (C.broken k x) = keeps st (refused x k 0)
+cycle_of st order n s (C.broken k x) = keeps st (refused (fault_number x) k 0)
 cycle_of st order n s C.still = cond (C.is_order (C.marked_set n s) order) (keeps st (idle 0)) (keeps st (refused 8 0 0))
 cycle_of st order n s C.moving = cond (C.is_order (C.marked_set n s) order) (leaves st n (C.cycle_in n order s) (done 1)) (keeps st (refused 8 0 0))
 

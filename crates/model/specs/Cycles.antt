@@ -1,13 +1,11 @@
 -- One cycle: marking, firing, a cycle in an order, a run (manual chapter 7, with the choices of document 01).
 -- Assumes nothing.
-use Rattle.std.specs.Prelude.{ℕ, zero, suc, ◌+◌, ◌-◌, ◌*◌, ◌/◌, ◌%◌, ◌^◌, Bool, true, false, not, cond, ◌&&◌, ◌||◌, List, [], ◌∷◌, ◌++◌, map, leb, ltb, eqb, get_or, set, drop, length, ℤ, pos}
-use Rattle.std.proofs.Math.Option.{Option, none, some}
+use Rattle.std.specs.Prelude.{ℕ, zero, suc, ◌+◌, ◌-◌, ◌*◌, ◌/◌, ◌%◌, ◌^◌, Bool, true, false, not, cond, ◌&&◌, ◌||◌, List, [], ◌∷◌, ◌++◌, map, leb, ltb, eqb, get_or, set, drop, length, ℤ, pos, Option, Some, None, Ok, Err}
 use Rattle.model.specs.declared.Token.{Token}
-use Rattle.model.specs.declared.Outcome.{Outcome}
-use Rattle.model.specs.declared.Outcome.TheVariants.{Value, Fault}
+use Rattle.model.specs.declared.Fault.{Fault}
 use Rattle.model.specs.declared.Ending.{Ending}
 use Rattle.model.specs.declared.Ending.TheVariants as ending
-use Rattle.model.specs.Values.{eq_z, is_true, bool}
+use Rattle.model.specs.Values.{eq_z, is_true, Outcome}
 use Rattle.model.specs.Expressions.{Exp, Env, value_of}
 use Rattle.model.specs.Rules.{Pattern, ignore, any, only, Action, nothing, bare, send, Rule, scope_of}
 use Rattle.model.specs.Network.{Box, Proc, box, input, output, Net, Own, vars, taken, got, State, no_token, capacity, proc, rule, queue, own, vars_of, taken_of, got_of, ins_of, outs_of, shape_of}
@@ -79,8 +77,8 @@ pub record Deed : Type 0 where
 
 -- the oldest token of each wire that is read, none where the wire is ignored
 unfoldable pub seen : Bool → List Token → Option Token
-seen true q = some (oldest q)
-seen false q = none
+seen true q = Some (oldest q)
+seen false q = None
 
 unfoldable pub look : State → List ℕ → List Bool → List (Option Token)  -- what a process sees on its wires
 look s [] bs = []
@@ -91,26 +89,26 @@ look s (w ∷ ws) (b ∷ bs) = seen b (queue s w) ∷ look s ws bs
 unfoldable pub moves : List ℕ → List (Option Token) → List Move
 moves [] ts = []
 moves (w ∷ ws) [] = []
-moves (w ∷ ws) (none ∷ ts) = moves ws ts
-moves (w ∷ ws) (some t ∷ ts) = record { wire = w; token = t } ∷ moves ws ts
+moves (w ∷ ws) (None ∷ ts) = moves ws ts
+moves (w ∷ ws) (Some t ∷ ts) = record { wire = w; token = t } ∷ moves ws ts
 
 -- the matched value of an input, 0 where it is ignored
 unfoldable pub matched_value : Option Token → ℤ
-matched_value none = pos 0
-matched_value (some t) = t.value
+matched_value None = pos 0
+matched_value (Some t) = t.value
 
 -- what the expressions of a rule are worked out from: what the box sees, and its variables before the firing
 unfoldable pub env_of : Net → Box → Rule → List (Option Token) → List ℤ → Env
 env_of n b r sees vs = record { scope = scope_of (shape_of n.wires b) r; ins = map matched_value sees; vars = vs }
 
 unfoldable pub or_zero : Outcome → ℤ  -- the value; a fault is no value
-or_zero (Value t z) = z
-or_zero (Fault n) = pos 0
+or_zero (Ok v) = v.value
+or_zero (Err x) = pos 0
 
 unfoldable pub result : Env → Action → Option Token  -- what an action sends
-result en nothing = none
-result en (bare t) = some (record { tag = t; value = pos 0 })
-result en (send t e) = some (record { tag = t; value = or_zero (value_of en e) })
+result en nothing = None
+result en (bare t) = Some (record { tag = t; value = pos 0 })
+result en (send t e) = Some (record { tag = t; value = or_zero (value_of en e) })
 
 unfoldable pub new_var : Env → ℤ → Action → ℤ  -- what an action leaves in a variable
 new_var en v nothing = v
@@ -132,13 +130,13 @@ reads_of (output w room) r = true ∷ []
 -- what a process sends to its output wires, from what it sees and kept
 unfoldable pub sent_of : Net → Proc → ℕ → List (Option Token) → Own → List (Option Token)
 sent_of n (box b) r sees o = map (result (env_of n b (rule b r) sees (vars_of o))) (rule b r).outs
-sent_of n (input w ts) r sees o = some (get_or ts (taken_of o) no_token) ∷ []
+sent_of n (input w ts) r sees o = Some (get_or ts (taken_of o) no_token) ∷ []
 sent_of n (output w room) r sees o = []
 
 unfoldable pub present : List (Option Token) → List Token  -- the tokens that are there
 present [] = []
-present (none ∷ ts) = present ts
-present (some t ∷ ts) = t ∷ present ts
+present (None ∷ ts) = present ts
+present (Some t ∷ ts) = t ∷ present ts
 
 unfoldable pub kept_of : Net → Proc → ℕ → List (Option Token) → Own → Own  -- what a process keeps, from what it sees and kept
 kept_of n (box b) r sees o = vars (new_vars (env_of n b (rule b r) sees (vars_of o)) (vars_of o) (rule b r).sets)
@@ -163,16 +161,16 @@ act k d s = record { queues = put_all d.put (take_all d.took s.queues); owns = s
 
 -- ── marking ──────────────────────────────────────────────────────────────────────────────────
 
--- not marked; marked, with the rule's number (0 for an input or output); a fault with its number
+-- not marked; marked, with the rule's number (0 for an input or output); a fault
 pub data Mark : Type 0 where
   quiet : Mark
   fires : ℕ → Mark
-  faulty : ℕ → Mark
+  faulty : Fault → Mark
 
 -- the first fault among the actions, else the mark
 unfoldable pub faultless : Outcome → Mark → Mark
-faultless (Value t z) m = m
-faultless (Fault n) m = faulty n
+faultless (Ok v) m = m
+faultless (Err x) m = faulty x
 
 unfoldable pub actions_of : Env → List Action → Mark → Mark  -- the expressions of the actions in file order
 actions_of en [] m = m
@@ -190,8 +188,8 @@ attempt true m = m
 attempt false m = quiet
 
 unfoldable pub guarded : Env → Rule → ℕ → Outcome → Mark  -- a guard that is reached
-guarded en r k (Fault n) = faulty n
-guarded en r k (Value t z) = attempt (is_true z) (chosen en r k)
+guarded en r k (Err x) = faulty x
+guarded en r k (Ok v) = attempt (is_true v.value) (chosen en r k)
 
 -- every pattern ready, every written output's wire not full
 unfoldable pub ready_rule : Net → State → Box → Rule → List ℤ → Bool
@@ -300,9 +298,9 @@ box_rule (output w room) m = 16
 unfoldable pub rule_numbers : Net → State → List ℕ  -- of 32 boxes
 rule_numbers n s = map (λ k. box_rule (proc n k) (mark n s k)) (up_from 0 32)
 
--- what marking finds: a fault with the lowest faulting box and the number, no mark, or marks
+-- what marking finds: a fault with the lowest faulting box, no mark, or marks
 pub data Finding : Type 0 where
-  broken : ℕ → ℕ → Finding
+  broken : ℕ → Fault → Finding
   still : Finding
   moving : Finding
 

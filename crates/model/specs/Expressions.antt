@@ -1,11 +1,9 @@
 -- Expressions: their form in the file, size, depth, type and value.
 -- Assumes nothing.
-use Rattle.std.specs.Prelude.{ℕ, zero, suc, ◌+◌, ◌-◌, ◌*◌, max, Bool, true, false, not, cond, ◌&&◌, ◌||◌, List, [], ◌∷◌, leb, ltb, eqb, get_or, drop, length, ℤ, pos}
+use Rattle.std.specs.Prelude.{ℕ, zero, suc, ◌+◌, ◌-◌, ◌*◌, max, Bool, true, false, not, cond, ◌&&◌, ◌||◌, List, [], ◌∷◌, leb, ltb, eqb, get_or, drop, length, ℤ, pos, Ok, Err}
 use Rattle.model.specs.declared.Ty.{Ty}
-use Rattle.model.specs.declared.Outcome.{Outcome}
-use Rattle.model.specs.declared.Outcome.TheVariants.{Value, Fault}
 use Rattle.model.specs.Bytes.{value_at}
-use Rattle.model.specs.Values.{bool, no_type, is_bool, is_number, is_plain, same_type, in_precision, within, wrap, is_true, apply, apply_one}
+use Rattle.model.specs.Values.{bool, no_type, is_bool, is_number, is_plain, same_type, in_precision, within, wrap, is_true, Outcome, gives, apply, apply_one}
 
 -- an operator stands with its code
 pub data Exp : Type 0 where
@@ -184,15 +182,15 @@ pub record Env : Type 0 where
   pub vars : List ℤ
 
 unfoldable pub then : Outcome → (Ty → ℤ → Outcome) → Outcome  -- go on with a value; a fault ends it
-then (Value t a) f = f t a
-then (Fault n) f = Fault n
+then (Ok v) f = f v.ty v.value
+then (Err x) f = Err x
 
 -- both sides of && and || are worked out; an if works out one branch
 unfoldable pub value_of : Env → Exp → Outcome
-value_of en (literal t z) = Value t z
-value_of en (matched i) = Value (get_or en.scope.ins i no_type) (get_or en.ins i (pos 0))
-value_of en (variable j) = Value (get_or en.scope.vars j no_type) (get_or en.vars j (pos 0))
-value_of en (cast t e) = then (value_of en e) (λ u a. Value t (wrap t a))
+value_of en (literal t z) = gives t z
+value_of en (matched i) = gives (get_or en.scope.ins i no_type) (get_or en.ins i (pos 0))
+value_of en (variable j) = gives (get_or en.scope.vars j no_type) (get_or en.vars j (pos 0))
+value_of en (cast t e) = then (value_of en e) (λ u a. gives t (wrap t a))
 value_of en (one o e) = then (value_of en e) (λ t a. apply_one o t a)
 value_of en (two o e f) = then (value_of en e) (λ t a. then (value_of en f) (λ u b. apply o t a b))
 value_of en (if c e f) =

@@ -1,5 +1,6 @@
 -- The definitions of document 01, one module for each of its parts.
 pub mod Bytes
+pub mod Reasons
 pub mod Values
 pub mod Expressions
 pub mod Rules

@@ -1,10 +1,9 @@
 -- The network file: its fields in order, form, limits and types of each, the ports, and the network that a good file describes.
 -- Assumes nothing.
-use Rattle.std.specs.Prelude.{ℕ, zero, suc, ◌+◌, ◌-◌, ◌*◌, Bool, true, false, not, cond, ◌&&◌, ◌||◌, List, [], ◌∷◌, ◌++◌, map, leb, ltb, eqb, get_or, drop, take, length}
+use Rattle.std.specs.Prelude.{ℕ, zero, suc, ◌+◌, ◌-◌, ◌*◌, Bool, true, false, not, cond, ◌&&◌, ◌||◌, List, [], ◌∷◌, ◌++◌, map, leb, ltb, eqb, get_or, drop, take, length, Option, Some, None}
 use Rattle.model.specs.declared.Ty.{Ty}
 use Rattle.model.specs.declared.Token.{Token}
 use Rattle.model.specs.declared.Field.{Field}
-use Rattle.model.specs.declared.Field.TheVariants.{At, Cut}
 use Rattle.model.specs.Bytes.{two_at, value_at, stretch}
 use Rattle.model.specs.Values.{in_precision, well_sized, is_plain, within}
 use Rattle.model.specs.Expressions.{type_at, Read, expression_limits}
@@ -13,12 +12,12 @@ use Rattle.model.specs.Network.{Wire, Variable, Box, Proc, box, input, output, N
 
 -- ── fields ───────────────────────────────────────────────────────────────────────────────────
 
--- the field at an offset: tag, two-byte length, body
-unfoldable pub field_at : List ℕ → ℕ → Field
+-- the field at an offset: tag, two-byte length, body; none where the file ends before it does
+unfoldable pub field_at : List ℕ → ℕ → Option Field
 field_at s at =
-    cond (ltb (length s) (at + 3)) Cut
-    (cond (ltb (length s) (at + 3 + two_at s (at + 1))) Cut
-    (At (get_or s at 0) (at + 3) (two_at s (at + 1))))
+    cond (ltb (length s) (at + 3)) None
+    (cond (ltb (length s) (at + 3 + two_at s (at + 1))) None
+    (Some (record { tag = get_or s at 0; start = at + 3; len = two_at s (at + 1) })))
 
 -- the fields so far: the offsets of each kind; how many rules stand before each box; the rules of the last box; the last tag, 2 for a rule
 pub record Index : Type 0 where
@@ -208,9 +207,9 @@ pub data Step : Type 0 where
 unfoldable pub onward : ℕ → ℕ → Index → ℕ → Step
 onward n at x next = cond (eqb n 0) (go x next) (stop (refuse n at))
 
-unfoldable pub on_field : List ℕ → Index → ℕ → Field → Step  -- a cut field is a fault of form
-on_field s x at Cut = stop (refuse 1 at)
-on_field s x at (At tag start len) = onward (field_fault s x tag (stretch s start len)) at (add_field x tag at) (start + len)
+unfoldable pub on_field : List ℕ → Index → ℕ → Option Field → Step  -- a cut field is a fault of form
+on_field s x at None = stop (refuse 1 at)
+on_field s x at (Some f) = onward (field_fault s x f.tag (stretch s f.start f.len)) at (add_field x f.tag at) (f.start + f.len)
 
 unfoldable pub step : List ℕ → Index → ℕ → Step  -- the file may end before any field
 step s x at = let f = on_field s x at (field_at s at) in cond (leb (length s) at) (stop (good x)) f

@@ -2,6 +2,7 @@
 -- Assumes nothing.
 use Rattle.std.specs.Prelude.{ℕ, zero, suc, ◌+◌, ◌≤◌, ◌<◌, ◌≡◌, ◌≢◌, Bool, true, false, List, [], ◌∷◌, ◌++◌, eqb, length}
 use Rattle.model.specs.declared.Token.{Token}
+use Rattle.model.specs.declared.Fault.{Fault}
 use Rattle.model.specs.Network.{Net, State, capacity, queue, loaded}
 use Rattle.model.specs.NetworkFile.{count, good}
 use Rattle.model.specs.Calls.{with_tokens}
@@ -35,7 +36,7 @@ taken_from w (d ∷ ds) = on_wire w d.took ++ taken_from w ds
 
 -- no fault is met, and the order names each marked process once
 pub record Order (n : Net) (s : State) (ks : List ℕ) : Type 0 where
-  pub calm : (k x : ℕ) → finding n s ≢ broken k x
+  pub calm : (k : ℕ) (x : Fault) → finding n s ≢ broken k x
   pub names : (k : ℕ) → count k ks ≡ count k (marked_of n s)
 
 -- the states at which cycles from a load end, each cycle in its own order, with all deeds since the load

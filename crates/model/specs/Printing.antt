@@ -45,13 +45,13 @@ spaced (t ∷ ts) = 32 ∷ (shown t ++ spaced ts)
 unfoldable pub ending_word : Ending → List ℕ
 ending_word Idle = 105 ∷ 100 ∷ 108 ∷ 101 ∷ []
 ending_word Spent = 115 ∷ 112 ∷ 101 ∷ 110 ∷ 116 ∷ []
-ending_word (Fault n b) = 102 ∷ 97 ∷ 117 ∷ 108 ∷ 116 ∷ []
+ending_word (Fault x b) = 102 ∷ 97 ∷ 117 ∷ 108 ∷ 116 ∷ []
 
 -- a fault names its box: " box "
 unfoldable pub box_part : Ending → List ℕ
 box_part Idle = []
 box_part Spent = []
-box_part (Fault n b) = (32 ∷ 98 ∷ 111 ∷ 120 ∷ 32 ∷ []) ++ decimal b
+box_part (Fault x b) = (32 ∷ 98 ∷ 111 ∷ 120 ∷ 32 ∷ []) ++ decimal b
 
 -- outcome WORD cycles C, and the box of a fault: "outcome ", " cycles ", and the line's end
 unfoldable pub outcome_line : Ending → ℕ → List ℕ

@@ -1,11 +1,10 @@
 -- Tokens in the token file, the state byte by byte, the output file.
 -- Assumes nothing.
-use Rattle.std.specs.Prelude.{ℕ, zero, suc, ◌+◌, ◌-◌, ◌*◌, ◌/◌, ◌%◌, Bool, true, false, not, cond, ◌&&◌, ◌||◌, leb, ltb, eqb, get_or, drop, take, length, replicate, ℤ, pos}
+use Rattle.std.specs.Prelude.{ℕ, zero, suc, ◌+◌, ◌-◌, ◌*◌, ◌/◌, ◌%◌, Bool, true, false, not, cond, ◌&&◌, ◌||◌, leb, ltb, eqb, get_or, drop, take, length, replicate, ℤ, pos, Option, Some, None}
 use mathlib.Core.List.{List, [], ◌∷◌, ◌++◌, map, zip_with}
 use Rattle.model.specs.declared.Ty.{Ty}
 use Rattle.model.specs.declared.Token.{Token}
 use Rattle.model.specs.declared.Field.{Field}
-use Rattle.model.specs.declared.Field.TheVariants.{At, Cut}
 use Rattle.model.specs.Bytes.{two_at, value_at, two_bytes, value_bytes, stretch}
 use Rattle.model.specs.Values.{is_dc, carried, within, eq_z}
 use Rattle.model.specs.Rules.{tag_fits}
@@ -46,9 +45,9 @@ unfoldable pub token_field : Ty → ℕ → List ℕ → Bool  -- tag, length, w
 token_field t tag b = eqb tag 32 && eqb (length b % 5) 0 && tokens_fit t (tokens_in b)
 
 -- the field for an input of type t at an offset: its tokens and where the next one is, or a bad field there
-unfoldable pub input_tokens : Ty → List ℕ → ℕ → Field → Verdict (List Token × ℕ)
-input_tokens t s at Cut = refuse 5 at
-input_tokens t s at (At tag start len) = let b = stretch s start len in or_refuse (token_field t tag b) 5 at (good (tokens_in b, start + len))
+unfoldable pub input_tokens : Ty → List ℕ → ℕ → Option Field → Verdict (List Token × ℕ)
+input_tokens t s at None = refuse 5 at
+input_tokens t s at (Some f) = let b = stretch s f.start f.len in or_refuse (token_field t f.tag b) 5 at (good (tokens_in b, f.start + f.len))
 
 -- the tokens of each input, from an offset on; what is missing, bad or extra is so at the offset reached
 unfoldable pub tokens_from : List Ty → List ℕ → ℕ → Verdict (List (List Token))

@@ -1,11 +1,12 @@
 -- Values: a kind and a precision p, wrapping, the operators.
 -- Assumes nothing.
-use Rattle.std.specs.Prelude.{ℕ, suc, ◌+◌, ◌-◌, ◌*◌, ◌/◌, ◌%◌, ◌^◌, Bool, true, false, not, cond, ◌&&◌, ◌||◌, leb, ltb, eqb, ℤ, pos, negsuc, neg_ℤ, ◌+ℤ◌, ◌-ℤ◌, ◌*ℤ◌}
+use Rattle.std.specs.Prelude.{ℕ, suc, ◌+◌, ◌-◌, ◌*◌, ◌/◌, ◌%◌, ◌^◌, Bool, true, false, not, cond, ◌&&◌, ◌||◌, leb, ltb, eqb, ℤ, pos, negsuc, neg_ℤ, ◌+ℤ◌, ◌-ℤ◌, ◌*ℤ◌, Result, Ok, Err}
 use Rattle.std.specs.Int.Signed.{lt_z, le_z, quot_z, rem_z}
 use Rattle.std.specs.Int.Bits.{bit_and, bit_or}
 use Rattle.model.specs.declared.Ty.{Ty}
-use Rattle.model.specs.declared.Outcome.{Outcome}
-use Rattle.model.specs.declared.Outcome.TheVariants.{Value, Fault}
+use Rattle.model.specs.declared.Value.{Value}
+use Rattle.model.specs.declared.Fault.{Fault}
+use Rattle.model.specs.declared.Fault.TheVariants.{ZeroDivisor}
 use Rattle.model.specs.Bytes.{mod_z, signed_of}
 
 -- ── types ────────────────────────────────────────────────────────────────────────────────────
@@ -72,6 +73,13 @@ read_back t n = cond (eqb t.kind 1) (signed_of t.p n) (pos n)
 unfoldable pub wrap : Ty → ℤ → ℤ
 wrap t z = read_back t (pattern t z)
 
+-- what working out an expression gives: a value with its type, or a fault
+abbrev pub Outcome : Type 0
+Outcome = Result Value Fault
+
+abbrev pub gives : Ty → ℤ → Outcome  -- the value, of that type
+gives t z = Ok (record { ty = t; value = z })
+
 -- ── operators ────────────────────────────────────────────────────────────────────────────────
 
 unfoldable pub truth : Bool → ℤ  -- 1 or 0
@@ -90,12 +98,12 @@ is_true z = not (eq_z z (pos 0))
 -- 10 +; 11 -; 12 *; 13 /; 14 mod: quotients toward zero, mod with the dividend's sign, a zero divisor is fault 9
 unfoldable pub arithmetic : ℕ → Ty → ℤ → ℤ → Outcome
 arithmetic o t a b =
-    cond (eqb o 10) (Value t (wrap t (a +ℤ b)))
-    (cond (eqb o 11) (Value t (wrap t (a -ℤ b)))
-    (cond (eqb o 12) (Value t (wrap t (a *ℤ b)))
-    (cond (eq_z b (pos 0)) (Fault 9)
-    (cond (eqb o 13) (Value t (wrap t (quot_z a b)))
-    (Value t (wrap t (rem_z a b)))))))
+    cond (eqb o 10) (gives t (wrap t (a +ℤ b)))
+    (cond (eqb o 11) (gives t (wrap t (a -ℤ b)))
+    (cond (eqb o 12) (gives t (wrap t (a *ℤ b)))
+    (cond (eq_z b (pos 0)) (Err ZeroDivisor)
+    (cond (eqb o 13) (gives t (wrap t (quot_z a b)))
+    (gives t (wrap t (rem_z a b)))))))
 
 -- 15 land; 16 lor; 17 lnand; 18 <<; 19 >>: on the p-bit pattern; << multiplies by 2^n, >> moves the pattern right
 unfoldable pub bitwise : ℕ → Ty → ℤ → ℤ → ℤ
@@ -124,12 +132,12 @@ logic o a b = cond (eqb o 26) (is_true a && is_true b) (is_true a || is_true b)
 unfoldable pub apply : ℕ → Ty → ℤ → ℤ → Outcome
 apply o t a b =
     cond (leb o 14) (arithmetic o t a b)
-    (cond (leb o 19) (Value t (bitwise o t a b))
-    (cond (leb o 25) (Value bool (truth (compare o a b)))
-    (Value bool (truth (logic o a b)))))
+    (cond (leb o 19) (gives t (bitwise o t a b))
+    (cond (leb o 25) (gives bool (truth (compare o a b)))
+    (gives bool (truth (logic o a b)))))
 
 -- 4 not; 5 lnot, the complement of the p-bit pattern
 unfoldable pub apply_one : ℕ → Ty → ℤ → Outcome
 apply_one o t a =
-    cond (eqb o 4) (Value bool (truth (not (is_true a))))
-    (Value t (read_back t (2 ^ t.p - 1 - pattern t a)))
+    cond (eqb o 4) (gives bool (truth (not (is_true a))))
+    (gives t (read_back t (2 ^ t.p - 1 - pattern t a)))
