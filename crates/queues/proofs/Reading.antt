@@ -16,7 +16,7 @@ use Rattle.model.specs.declared.Token.{Token}
 use Rattle.model.specs.Bytes.{two_at, two_bytes, value_bytes}
 use Rattle.model.specs.Values.{within, carried, eq_z}
 use Rattle.model.specs.Rules.{tag_fits}
-use Rattle.model.specs.Network.{Wire, Variable, Proc, box, input, output, Net, vars, wire, vars_of, taken_of, got_of, no_token}
+use Rattle.model.specs.Network.{Wire, Variable, Proc, box, input, output, Net, wire, vars_of, taken_of, got_of, no_token}
 use Rattle.model.specs.States.{token_at, read_tokens, token_bytes, tokens_bytes, token_fits, tokens_fit, room_bytes, wire_bytes, values_bytes, own_bytes, wire_size, own_size, all_zero, room_fits, wire_fits, queue_in, values_in, own_fits, own_in}
 use Rattle.model.proofs.Tests.{and_left, and_right}
 use Rattle.model.proofs.Decoded.{Each, GoodType}

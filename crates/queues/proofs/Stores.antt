@@ -1,13 +1,12 @@
 -- What the stores of each function come to.
 -- Assumes nothing.
-use Prim.Native.Nat.{ℕ, zero, suc, ◌+◌, ◌-◌, ◌*◌, ◌≤◌, ◌<◌}
+use Prim.Native.Nat.{ℕ, ◌+◌, ◌-◌, ◌*◌, ◌≤◌}
 use mathlib.Core.Path.{◌≡◌, refl, sym, ap, ap₂, ◌∙◌}
 use mathlib.Core.List.{List, [], ◌∷◌, ◌++◌, append-nil}
 use native.Mathlib.Omega.{arith}
-use native.Mathlib.Nat.{not-suc-le-zero, le_of_suc-le-suc, add-sub_cancel_left}
-use native.Mathlib.Numerals.{add-one}
-use lib.ListN.{length, get_or, take, drop, set, replicate, length-take, length-drop, drop_of_length-le}
-use lib.Seq.{drop-length, take_all, length-take-le, take-append_seam, drop-append_seam, get_or-drop, get_or-append-add}
+use native.Mathlib.Nat.{add-sub_cancel_left}
+use lib.ListN.{length, get_or, take, drop, set, replicate, length-take, length-drop, length-append, drop_of_length-le}
+use lib.Seq.{take_all, take-append_seam, drop-append_seam, get_or-drop}
 use lib.IntN.{ℤ, pos}
 use Rattle.model.specs.declared.Token.{Token}
 use Rattle.model.specs.Bytes.{two_at, four_at, value_at, signed_of, two_bytes, value_bytes}
@@ -66,46 +65,19 @@ pop_stores s last n e f =
     ap₂ (λ (l : List ℕ) (j : ℕ). set (put_mid 1 j s l) 0 (n - 1)) (f ∙ ap (λ (j : ℕ). moved (mid 1 j s)) k) k
     ∙ ap (λ (j : ℕ). set (put_mid 1 (5 * j) s (moved (mid 1 (5 * j) s))) 0 (j - 1)) e
 
--- what a turn reads, where the first i bytes are done
-pub move_reads : (s r : List ℕ) (i b : ℕ) → i + 5 ≤ length s → r ≡ take i (drop 5 s) ++ drop i s → b ≡ get_or r (i + 5) 0 → b ≡ get_or (drop 5 s) i 0
-move_reads s r i b h e f =
-    let p : List ℕ = take i (drop 5 s) in
-    let lp : length p ≡ i = length-take-le i (drop 5 s) (simp length-drop (omega arith)) in
-    let x : get_or (p ++ drop i s) (i + 5) 0 ≡ get_or (drop i s) 5 0 = ap (λ (n : ℕ). get_or (p ++ drop i s) (n + 5) 0) (sym lp) ∙ get_or-append-add p (drop i s) 5 0 in
-    let y : i + 5 ≡ 5 + i = omega arith in
-    f ∙ ap (λ (l : List ℕ). get_or l (i + 5) 0) e ∙ x ∙ get_or-drop i s 5 0 ∙ ap (λ (n : ℕ). get_or s n 0) y ∙ sym (get_or-drop 5 s i 0)
-
--- a turn: one byte more of t stands in place of s
-pub turn : (t s r : List ℕ) (i b : ℕ) → i < length t → i < length s → r ≡ take i t ++ drop i s → b ≡ get_or t i 0 → set r i b ≡ take (i + 1) t ++ drop (i + 1) s
-turn t s r i b h k e f = rw add-one (ap₂ (λ (l : List ℕ) (x : ℕ). set l i x) e f ∙ go t s i h k)
-  where
-    go : (t s : List ℕ) (i : ℕ) → i < length t → i < length s → set (take i t ++ drop i s) i (get_or t i 0) ≡ take (suc i) t ++ drop (suc i) s
-    go [] s i h k = absurd (not-suc-le-zero h)
-    go (x ∷ t) [] i h k = absurd (not-suc-le-zero k)
-    go (x ∷ t) (y ∷ s) zero h k = refl
-    go (x ∷ t) (y ∷ s) (suc i) h k = ap (λ (l : List ℕ). x ∷ l) (go t s i (le_of_suc-le-suc h) (le_of_suc-le-suc k))
-
--- all turns done
-pub all_turns : (t s r : List ℕ) (i : ℕ) → length t ≡ length s → length s ≤ i → r ≡ take i t ++ drop i s → r ≡ t
-all_turns t s r i e h f = f ∙ ap (λ (l : List ℕ). take i t ++ l) (drop_of_length-le s h) ∙ append-nil (take i t) ∙ take_all i t (omega arith)
-
 -- the tokens' bytes all moved, and zeros behind
-pub move_whole : (s r last : List ℕ) (i k : ℕ) → k + 5 ≡ length s → i ≡ k → r ≡ take i (drop 5 s) ++ drop i s → last ≡ replicate (length (mid k (length s - k) r)) 0 → put_mid k (length s - k) r last ≡ moved s
+pub move_whole : (s r last : List ℕ) (k : ℕ) → k + 5 ≡ length s → r ≡ take k (drop 5 s) ++ drop k s → last ≡ replicate (length (mid k (length r - k) r)) 0 → put_mid k (length r - k) r last ≡ moved s
 unfolding moved
-move_whole s r last i k h z e f =
+move_whole s r last k h e f =
     let p : List ℕ = drop 5 s in
     let q : List ℕ = drop k s in
     let lp : k ≡ length p = simp length-drop (omega arith) in
-    let g : r ≡ p ++ q = e ∙ ap (λ (n : ℕ). take n p ++ drop n s) z ∙ ap (λ (l : List ℕ). l ++ q) (take_all k p (omega (arith, lp))) in
+    let lq : length q ≡ 5 = simp length-drop (omega arith) in
+    let g : r ≡ p ++ q = e ∙ ap (λ (l : List ℕ). l ++ q) (take_all k p (omega (arith, lp))) in
+    let n : length r - k ≡ 5 = rw g (simp length-append (omega arith)) in
     let x : take k r ≡ p = ap₂ (λ (n : ℕ) (l : List ℕ). take n l) lp g ∙ take-append_seam p q in
     let y : drop k r ≡ q = ap₂ (λ (n : ℕ) (l : List ℕ). drop n l) lp g ∙ drop-append_seam p q in
-    let five : length (mid k (length s - k) r) ≡ 5 = rw y (simp (length-take, length-drop) (omega arith)) in
-    let short : length q ≤ length s - k = simp length-drop (omega arith) in
-    let none : drop (length s - k) q ≡ [] = drop_of_length-le q short in
-    rw (x, y, none, append-nil) (ap (λ (l : List ℕ). p ++ l) (f ∙ ap (λ (n : ℕ). replicate n 0) five))
-
--- ── zeros ────────────────────────────────────────────────────────────────────────────────────
-
-pub filled : (s s₀ : List ℕ) (i : ℕ) → s ≡ replicate i 0 ++ drop i s₀ → i ≡ length s₀ → s ≡ replicate (length s₀) 0
-filled s s₀ i e h =
-    e ∙ ap (λ (n : ℕ). replicate n 0 ++ drop n s₀) h ∙ ap (λ (l : List ℕ). replicate (length s₀) 0 ++ l) (drop-length s₀) ∙ append-nil (replicate (length s₀) 0)
+    let five : length (take 5 q) ≡ 5 = simp length-take (omega arith) in
+    let short : length q ≤ 5 = omega (arith, lq) in
+    let none : drop 5 q ≡ [] = drop_of_length-le q short in
+    rw (n, x, y, none, append-nil) (ap (λ (l : List ℕ). p ++ l) (f ∙ rw (n, y) (ap (λ (j : ℕ). replicate j 0) five)))

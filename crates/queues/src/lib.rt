@@ -26,7 +26,7 @@ pub fn token_at(s: &[u8], at: usize) -> Token
 pub fn count(s: &[u8]) -> usize
     ensures { (result ≡ get_or s.now 0 0) × (result < 256) }
 {
-    octets::wide(octets::byte_at(s, 0))
+    usize::from(octets::byte_at(s, 0))
 }
 
 // The oldest token of a wire.
@@ -50,7 +50,7 @@ pub fn push(s: &mut [u8], t: Token)
     requires { WireRoom s.old × (mag t.value < 2 ^ 31) }
     ensures { s.new ≡ push_bytes s.old t }
 {
-    let n = octets::wide(s[0]);
+    let n = usize::from(s[0]);
     let start = 1 + 5 * n;
     let end = start + 5;
     put_token(&mut s[start..end], t);
@@ -58,19 +58,13 @@ pub fn push(s: &mut [u8], t: Token)
 }
 
 // The tokens' bytes moved down over the oldest one, and zeros behind them.
-// The loop does nothing but move, so that the compiler can move many bytes at a time.
 fn move_down(s: &mut [u8])
     requires { 5 ≤ length s.old }
     ensures { s.new ≡ moved s.old }
 {
-    let end = s.len();
-    let kept = end - 5;
-    let mut i = 0;
-    while i < kept {
-        s[i] = s[i + 5];
-        i += 1;
-    }
-    clear(&mut s[kept..end]);
+    let kept = s.len() - 5;
+    s.copy_within(5.., 0);
+    s[kept..].fill(0);
 }
 
 // The oldest token away from a wire.
@@ -78,7 +72,7 @@ pub fn pop(s: &mut [u8])
     requires { WireHeld s.old }
     ensures { s.new ≡ pop_bytes s.old }
 {
-    let n = octets::wide(s[0]);
+    let n = usize::from(s[0]);
     let end = 1 + 5 * n;
     move_down(&mut s[1..end]);
     s[0] = (n - 1) as u8;
@@ -118,9 +112,5 @@ pub fn put_var(s: &mut [u8], j: usize, z: i64)
 pub fn clear(s: &mut [u8])
     ensures { s.new ≡ replicate (length s.old) 0 }
 {
-    let mut i = 0;
-    while i < s.len() {
-        s[i] = 0;
-        i += 1;
-    }
+    s.fill(0);
 }

@@ -3,4 +3,4 @@ use Rattle.queues.proofs.pop.Goals as goal
 
 pub returns : goal.returns
 returns c =
-    pop_stores c.args.s.now _ _ c.wide-n.ensures.0 c.move_down.ensures
+    pop_stores c.args.s.now _ _ c.from-n.ensures c.move_down.ensures
