@@ -16,7 +16,7 @@ use mir.Val.{SFits, Fits, to_z, of_z}
 use mir.Facts.{to_z_pos, to_z-of_z}
 use borrow.Author.Tests.{lt-ltb, le-ltb, ltb-true, ltb-false}
 use Rattle.model.specs.declared.Token.{Token}
-use Rattle.model.specs.declared.Field.TheVariants.{At, Cut}
+use Rattle.std.specs.Prelude.{Some, None}
 use Rattle.model.specs.Bytes.{mod_z, signed_of, two_at, four_at, value_at, two_bytes, four_bytes, value_bytes, stretch}
 use Rattle.model.specs.States.{token_bytes}
 use Rattle.model.specs.NetworkFile.{field_at}
@@ -229,15 +229,15 @@ put_value s last z n h e f = f ∙ ap (λ (m : ℕ). four_bytes m ++ drop 4 s) (
 
 -- ── fields ───────────────────────────────────────────────────────────────────────────────────
 
-pub field_short : (s : List ℕ) (at : ℕ) → length s < at + 3 → field_at s at ≡ Cut
+pub field_short : (s : List ℕ) (at : ℕ) → length s < at + 3 → field_at s at ≡ None
 unfolding field_at
 field_short s at h = simp (lt-ltb (length s) (at + 3) h)
 
-pub field_cut : (s : List ℕ) (at len : ℕ) → len ≡ two_at s (at + 1) → at + 3 ≤ length s → length s < at + 3 + len → field_at s at ≡ Cut
+pub field_cut : (s : List ℕ) (at len : ℕ) → len ≡ two_at s (at + 1) → at + 3 ≤ length s → length s < at + 3 + len → field_at s at ≡ None
 unfolding field_at
 field_cut s at len e h g = simp (le-ltb (length s) (at + 3) h, lt-ltb (length s) (at + 3 + two_at s (at + 1)) (rw e at g))
 
-pub field_whole : (s : List ℕ) (at len : ℕ) → len ≡ two_at s (at + 1) → at + 3 ≤ length s → at + 3 + len ≤ length s → At (get_or s at 0) (at + 3) len ≡ field_at s at
+pub field_whole : (s : List ℕ) (at len : ℕ) → len ≡ two_at s (at + 1) → at + 3 ≤ length s → at + 3 + len ≤ length s → Some (record { tag = get_or s at 0; start = at + 3; len = len }) ≡ field_at s at
 unfolding field_at
 field_whole s at len e h g = rw e (simp (le-ltb (length s) (at + 3) h, le-ltb (length s) (at + 3 + two_at s (at + 1)) (rw e at g)))
 

@@ -20,14 +20,14 @@ pub fn wide(x: u8) -> usize
 pub fn byte_at(s: &[u8], i: usize) -> u8
     ensures { result ≡ get_or s.now i 0 }
 {
-    if i < s.len() { s[i] } else { 0 }
+    s.get(i).copied().unwrap_or(0)
 }
 
 // The entry i of a table.
 pub fn entry(t: &[u16], i: usize) -> usize
     ensures { (result ≡ get_or t.now i 0) × (result < 65536) }
 {
-    if i < t.len() { t[i] as usize } else { 0 }
+    t.get(i).map_or(0, |x| usize::from(*x))
 }
 
 // The two-byte number at an offset.
@@ -37,7 +37,7 @@ pub fn two_at(s: &[u8], at: usize) -> usize
     if s.len() <= at {
         return 0;
     }
-    wide(byte_at(s, at)) * 256 + wide(byte_at(s, at + 1))
+    usize::from(byte_at(s, at)) * 256 + usize::from(byte_at(s, at + 1))
 }
 
 // The four-byte number at an offset.
@@ -109,22 +109,19 @@ pub fn part(s: &[u8], start: usize, len: usize) -> &[u8]
     &s[start..end]
 }
 
-// The field at an offset.
-pub fn field_at(s: &[u8], at: usize) -> Field
+// The field at an offset, if the file does not end before it does.
+pub fn field_at(s: &[u8], at: usize) -> Option<Field>
     ensures { result ≡ field_at s.now at }
 {
     let n = s.len();
-    if n <= at {
-        return Field::Cut;
-    }
-    if n - at < 3 {
-        return Field::Cut;
-    }
-    let start = at + 3;
-    let len = two_at(s, at + 1);
-    if n - start < len {
-        return Field::Cut;
+    if n <= at || n - at < 3 {
+        return None;
     }
     let tag = s[at];
-    Field::At { tag, start, len }
+    let len = two_at(s, at + 1);
+    let start = at + 3;
+    if n - start < len {
+        return None;
+    }
+    Some(Field { tag, start, len })
 }

@@ -6,9 +6,6 @@ use Rattle.octets.proofs.field_at.Goals as goal
 pub returns-then-n-at : goal.returns-then-n-at
 returns-then-n-at c = sym (field_short _ _ (omega arith))
 
-pub returns-then-n-at-lt3 : goal.returns-then-n-at-lt3
-returns-then-n-at-lt3 c = sym (field_short _ _ (omega arith))
-
 pub returns-then-n-start : goal.returns-then-n-start
 returns-then-n-start c = sym (field_cut _ _ _ c.two_at-len.ensures.0 (omega arith) (omega arith))
 
