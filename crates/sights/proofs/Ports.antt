@@ -2,10 +2,9 @@
 -- Assumes nothing.
 use mathlib.Core.Path.{◌≡◌, refl, sym, ap, ◌∙◌}
 use mathlib.Core.List.{List}
-use Prim.Native.Nat.{ℕ, ◌+◌, ◌<◌}
+use Prim.Native.Nat.{ℕ, ◌+◌, ◌≤◌, ◌<◌}
 use native.Mathlib.Omega.{arith}
-use lib.ListN.{length, get_or, drop, length-map}
-use lib.Seq.{get_or-drop}
+use lib.ListN.{length, get_or, length-map}
 use Rattle.model.specs.Bytes.{stretch}
 use Rattle.model.specs.NetworkFile.{Index, variable_start, body_at, wire_of, box_of, box_at, wires_of}
 use Rattle.model.proofs.Decoded.{GoodBox, box_good, stretch_at, length-stretch}
@@ -50,11 +49,11 @@ module _ (s t : List ℕ) (c : Counts) (h : Tabled s t c) (k : ℕ) (l : k < c.b
   unfolding variable_start
   outs_long = ap length outs_are ∙ length-stretch body (3 + get_or body 0 0) (get_or body 1 0) (omega (arith, body_fits.whole))
 
-  pub ins_count : (b : List ℕ) (a v : ℕ) → b ≡ body → v ≡ get_or b 0 0 → a ≡ v → a ≡ length (box_at s x k).ins
-  ins_count b a v e p q = q ∙ p ∙ ap (λ (y : List ℕ). get_or y 0 0) e ∙ sym ins_long
+  pub ins_count : (b : List ℕ) (a v : ℕ) → b ≡ body → v ≡ get_or b 0 0 → a ≡ v → (a ≡ length (box_at s x k).ins) × (a ≤ 4)
+  ins_count b a v e p q = let g : a ≡ length (box_at s x k).ins = q ∙ p ∙ ap (λ (y : List ℕ). get_or y 0 0) e ∙ sym ins_long in (g, omega (arith, g, box_is.few_ins))
 
-  pub outs_count : (b : List ℕ) (a v : ℕ) → b ≡ body → v ≡ get_or b 1 0 → a ≡ v → a ≡ length (box_at s x k).outs
-  outs_count b a v e p q = q ∙ p ∙ ap (λ (y : List ℕ). get_or y 1 0) e ∙ sym outs_long
+  pub outs_count : (b : List ℕ) (a v : ℕ) → b ≡ body → v ≡ get_or b 1 0 → a ≡ v → (a ≡ length (box_at s x k).outs) × (a ≤ 4)
+  outs_count b a v e p q = let g : a ≡ length (box_at s x k).outs = q ∙ p ∙ ap (λ (y : List ℕ). get_or y 1 0) e ∙ sym outs_long in (g, omega (arith, g, box_is.few_outs))
 
   pub in-wire-is : (b : List ℕ) (j v : ℕ) → b ≡ body → j < length (box_at s x k).ins → v ≡ get_or b (3 + j) 0 → (v ≡ get_or (box_at s x k).ins j 0) × (v < c.wires)
   in-wire-is b j v e m q =
@@ -70,10 +69,3 @@ module _ (s t : List ℕ) (c : Counts) (h : Tabled s t c) (k : ℕ) (l : k < c.b
       let f : v ≡ get_or (box_at s x k).outs j 0 =
       q ∙ ap (λ (y : List ℕ). get_or y (3 + i + j) 0) e ∙ ap (λ (y : ℕ). get_or body (3 + y + j) 0) u ∙ sym (ap (λ (y : List ℕ). get_or y j 0) outs_are ∙ stretch_at body (3 + n) (get_or body 1 0) j o) in
       (f, omega (arith, f, wires_are, box_is.outs j m))
-
-  -- behind the counts stand the wires of the inputs, then those of the outputs
-  pub ins_at : (b : List ℕ) → b ≡ body → (j : ℕ) → j < length (box_at s x k).ins → get_or (drop 3 b) j 0 ≡ get_or (box_at s x k).ins j 0
-  ins_at b e j m = get_or-drop 3 b j 0 ∙ (in-wire-is b j (get_or b (3 + j) 0) e m refl).0
-
-  pub outs_at_lem : (b : List ℕ) (i : ℕ) → b ≡ body → i ≡ get_or b 0 0 → (j : ℕ) → j < length (box_at s x k).outs → get_or (drop (3 + i) b) j 0 ≡ get_or (box_at s x k).outs j 0
-  outs_at_lem b i e g j m = get_or-drop (3 + i) b j 0 ∙ (out_wire_is b i j (get_or b (3 + i + j) 0) e g m refl).0

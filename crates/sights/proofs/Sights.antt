@@ -50,13 +50,9 @@ unfolding head_in head_of wire_bytes room_bytes tokens_bytes token_bytes
 head_is w [] = refl
 head_is w (t ∷ q) = rw (ne_eqb (suc (length q)) 0 (λ e. omega (arith, e)))
 
-pub full_yes : (p : List ℕ) (a : ℕ) → a ≡ get_or p 0 0 → length p ≤ 1 + 5 * a → 1 ≡ full_in p
-unfolding full_in hit
-full_yes p a e l = rw (← e, le-leb (length p) (1 + 5 * a) l)
-
-pub full_no : (p : List ℕ) (a : ℕ) → a ≡ get_or p 0 0 → 1 + 5 * a < length p → 0 ≡ full_in p
-unfolding full_in hit
-full_no p a e l = rw (← e, lt-leb (length p) (1 + 5 * a) l)
+pub full_read : (p : List ℕ) (a : ℕ) → a ≡ get_or p 0 0 → leb (length p) (1 + 5 * a) ≡ full_in p
+unfolding full_in
+full_read p a e = ap (λ (i : ℕ). leb (length p) (1 + 5 * i)) e
 
 -- five bytes a token, as many tokens as the capacity
 leb_five : (a b : ℕ) → leb (1 + 5 * a) (1 + 5 * b) ≡ leb a b
@@ -66,11 +62,11 @@ leb_five a b = go (dec_lt b a)
     go (yes h) = lt-leb (1 + 5 * a) (1 + 5 * b) (omega arith) ∙ sym (lt-leb a b h)
     go (no f) = le-leb (1 + 5 * a) (1 + 5 * b) (omega (arith, f)) ∙ sym (le-leb a b (omega (arith, f)))
 
-pub full_is : (n : Net) (s : State) (w : ℕ) → length (queue s w) ≤ capacity n w → full_in (wire_bytes (wire n w) (queue s w)) ≡ hit (full n s w)
+pub full_is : (n : Net) (s : State) (w : ℕ) → length (queue s w) ≤ capacity n w → full_in (wire_bytes (wire n w) (queue s w)) ≡ full n s w
 unfolding full_in full capacity wire_size
 full_is n s w l =
-    ap₂ (λ (a b : ℕ). hit (leb a (1 + 5 * b))) (length_wire (wire n w) (queue s w) l) (wire_count (wire n w) (queue s w))
-    ∙ ap hit (leb_five (wire n w).capacity (length (queue s w)))
+    ap₂ (λ (a b : ℕ). leb a (1 + 5 * b)) (length_wire (wire n w) (queue s w) l) (wire_count (wire n w) (queue s w))
+    ∙ leb_five (wire n w).capacity (length (queue s w))
 
 zero_at : (k i : ℕ) → ◌≡◌ {A = ℕ} (get_or (replicate k 0) i 0) 0
 zero_at zero i = refl
@@ -117,21 +113,10 @@ module _ (n : Net) (s : State) (ws : List ℕ) (j w : ℕ) (p : List ℕ) (found
         (y ∙ ap (λ (u : Token). u.value) (f ∙ ap (λ (y : List ℕ). token_at (drop 1 y)) bytes ∙ oldest_is (wire n w) (queue s w) (queue-sane n s g w)) ∙ ap (λ (i : ℕ). (oldest (queue s i)).value) found);
   }
 
-  pub fulls_next : (v : List ℕ) (a : ℕ) → GoodState n s → a ≡ full_in p → j < length v → Fulls n s ws j v → Fulls n s ws (j + 1) (set v j a)
+  pub fulls_next : (v : List ℕ) (a : ℕ) → GoodState n s → a ≡ hit (full_in p) → j < length v → Fulls n s ws j v → Fulls n s ws (j + 1) (set v j a)
   fulls_next v a g e l q = record {
-    each = set_next (λ i. hit (full n s (get_or ws i 0))) 0 v j a l q.each (e ∙ ap full_in bytes ∙ full_is n s w (g.most w) ∙ ap (λ (i : ℕ). hit (full n s i)) found);
+    each = set_next (λ i. hit (full n s (get_or ws i 0))) 0 v j a l q.each (e ∙ ap hit (ap full_in bytes ∙ full_is n s w (g.most w)) ∙ ap (λ (i : ℕ). hit (full n s i)) found);
   }
-
--- all turns done, where the wires found are those of the ports
-module _ (n : Net) (s : State) (ws us : List ℕ) (j : ℕ) (all : j ≡ length us) (same : (i : ℕ) → i < length us → get_or ws i 0 ≡ get_or us i 0) where
-  pub oldest_all : (h : List ℕ) (v : List ℤ) → Oldest s ws j h v → Oldest s us (length us) h v
-  oldest_all h v q = record {
-    heads = λ i l. q.heads i (omega (arith, l, all)) ∙ ap (λ (k : ℕ). head_of (queue s k)) (same i l);
-    values = λ i l. q.values i (omega (arith, l, all)) ∙ ap (λ (k : ℕ). (oldest (queue s k)).value) (same i l);
-  }
-
-  pub fulls_all : (v : List ℕ) → Fulls n s ws j v → Fulls n s us (length us) v
-  fulls_all v q = record { each = λ i l. q.each i (omega (arith, l, all)) ∙ ap (λ (k : ℕ). hit (full n s k)) (same i l) }
 
 -- four answers
 four : {A : Type 0} (n : ℕ) (f : ℕ → A) (d a b c e : A) → n ≤ 4 → (0 < n → a ≡ f 0) → (1 < n → b ≡ f 1) → (2 < n → c ≡ f 2) → (3 < n → e ≡ f 3)

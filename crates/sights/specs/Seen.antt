@@ -1,6 +1,6 @@
 -- What a box sees of a state.
 -- Assumes nothing.
-use Rattle.std.specs.Prelude.{ℕ, ◌+◌, ◌*◌, ◌^◌, ◌<◌, ◌≡◌, cond, List, [], ◌∷◌, eqb, leb, ℤ, pos, length, get_or}
+use Rattle.std.specs.Prelude.{ℕ, ◌+◌, ◌*◌, ◌^◌, ◌<◌, ◌≡◌, Bool, cond, List, [], ◌∷◌, eqb, leb, ℤ, pos, length, get_or}
 use Rattle.std.specs.Int.Signed.{mag}
 use Rattle.model.specs.declared.Token.{Token}
 use Rattle.model.specs.Network.{Box, Net, State, queue}
@@ -17,8 +17,8 @@ head_of (t ∷ ts) = t.tag
 unfoldable pub head_in : List ℕ → ℕ
 head_in p = cond (eqb (get_or p 0 0) 0) 4 (get_or p 1 0)
 
-unfoldable pub full_in : List ℕ → ℕ  -- 1 where the tokens take all of a wire's bytes
-full_in p = hit (leb (length p) (1 + 5 * get_or p 0 0))
+unfoldable pub full_in : List ℕ → Bool  -- the tokens take all of a wire's bytes
+full_in p = leb (length p) (1 + 5 * get_or p 0 0)
 
 -- the oldest token's tag and value of each of the first n of these wires
 pub record Oldest (s : State) (ws : List ℕ) (n : ℕ) (h : List ℕ) (v : List ℤ) : Type 0 where
