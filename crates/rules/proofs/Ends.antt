@@ -9,10 +9,10 @@ use lib.Dec.{leb, ltb}
 use lib.ListN.{get_or, drop, take, length, length-drop}
 use lib.Seq.{drop-drop, take_all}
 use borrow.Author.Tests.{le-leb, lt-leb, lt-ltb, le-ltb, ltb-true, leb-true}
+use Rattle.std.specs.Prelude.{Some, None}
 use Rattle.model.specs.Expressions.{Exp, Read, bad, got, after, read_many, provided, expression}
 use Rattle.model.specs.Rules.{send, sent_tag, bare_action, pattern_size, read_pattern, read_action, holds_expression}
 use Rattle.model.proofs.Tests.{and_left, and_right, and₃}
-use Rattle.expressions.specs.declared.Form.TheVariants.{Bytes, Malformed}
 use Rattle.expressions.specs.Reading.{end_from, is_read, skip_to}
 use Rattle.expressions.proofs.Reading.{no_exp, no_head, skip_is}
 use Rattle.expressions.proofs.Heads.{head_at}
@@ -34,54 +34,54 @@ module _ {A : Type 0} (f : List ℕ → Read A) (b : List ℕ) where
   many_got : (r : Read (List A)) (a : A) (at n : ℕ) → end_from at (after r (λ rest m. got (a ∷ rest) (n + m))) ≡ end_from (at + n) r
   unfolding end_from after
   many_got bad a at n = refl
-  many_got (got es m) a at n = ap Bytes (omega arith)
+  many_got (got es m) a at n = ap Some (omega arith)
 
-  step_go : (k at end : ℕ) (r : Read A) → end_from at r ≡ Bytes end → end_from at (after r (λ a n. after (read_many f k (drop n (drop at b))) (λ rest m. got (a ∷ rest) (n + m)))) ≡ end_from end (read_many f k (drop end b))
+  step_go : (k at end : ℕ) (r : Read A) → end_from at r ≡ Some end → end_from at (after r (λ a n. after (read_many f k (drop n (drop at b))) (λ rest m. got (a ∷ rest) (n + m)))) ≡ end_from end (read_many f k (drop end b))
   unfolding end_from after
   step_go k at end bad e = let z : ◌≡◌ {A = ℕ} 0 1 = cc in absurd (omega arith)
   step_go k at end (got a n) e =
       let q : at + n ≡ end = cc in
       rw (drop-drop n at b) (many_got (read_many f k (drop (at + n) b)) a at n ∙ ap (λ (j : ℕ). end_from j (read_many f k (drop j b))) q)
 
-  pub end_step : (k at end : ℕ) → 0 < k → end_from at (f (drop at b)) ≡ Bytes end → end_from at (read_many f k (drop at b)) ≡ end_from end (read_many f (k - 1) (drop end b))
+  pub end_step : (k at end : ℕ) → 0 < k → end_from at (f (drop at b)) ≡ Some end → end_from at (read_many f k (drop at b)) ≡ end_from end (read_many f (k - 1) (drop end b))
   unfolding read_many
   end_step zero at end l e = absurd (omega arith)
   end_step (suc k) at end l e =
       let q : k ≡ suc k - 1 = omega arith in
       step_go k at end (f (drop at b)) e ∙ ap (λ (j : ℕ). end_from end (read_many f j (drop end b))) q
 
-  bad_go : (k at : ℕ) (r : Read A) → end_from at r ≡ Malformed → end_from at (after r (λ a n. after (read_many f k (drop n (drop at b))) (λ rest m. got (a ∷ rest) (n + m)))) ≡ Malformed
+  bad_go : (k at : ℕ) (r : Read A) → end_from at r ≡ None → end_from at (after r (λ a n. after (read_many f k (drop n (drop at b))) (λ rest m. got (a ∷ rest) (n + m)))) ≡ None
   unfolding end_from after
   bad_go k at bad e = refl
   bad_go k at (got a n) e = let z : ◌≡◌ {A = ℕ} 0 1 = cc in absurd (omega arith)
 
-  pub end_bad : (k at : ℕ) → 0 < k → end_from at (f (drop at b)) ≡ Malformed → end_from at (read_many f k (drop at b)) ≡ Malformed
+  pub end_bad : (k at : ℕ) → 0 < k → end_from at (f (drop at b)) ≡ None → end_from at (read_many f k (drop at b)) ≡ None
   unfolding read_many
   end_bad zero at l e = absurd (omega arith)
   end_bad (suc k) at l e = bad_go k at (f (drop at b)) e
 
-  pub end_none : (k at : ℕ) → k ≤ 0 → end_from at (read_many f k (drop at b)) ≡ Bytes at
+  pub end_none : (k at : ℕ) → k ≤ 0 → end_from at (read_many f k (drop at b)) ≡ Some at
   unfolding end_from read_many
-  end_none zero at l = ap Bytes (omega arith)
+  end_none zero at l = ap Some (omega arith)
   end_none (suc k) at l = absurd (omega arith)
 
 -- ── a pattern ────────────────────────────────────────────────────────────────────────────────
 
 module _ (known : ℕ → Bool) (b : List ℕ) (at : ℕ) where
-  pub pattern_none : length b ≤ at → Malformed ≡ end_from at (read_pattern known (drop at b))
+  pub pattern_none : length b ≤ at → None ≡ end_from at (read_pattern known (drop at b))
   unfolding end_from read_pattern provided
   pattern_none l = rw (le-ltb 0 (length (drop at b)) (omega (arith, length-drop at b)))
 
   module _ (c : ℕ) (h : c ≡ get_or b at 0) (l : at < length b) where
-    pub pattern_unknown : known c ≡ false → Malformed ≡ end_from at (read_pattern known (drop at b))
+    pub pattern_unknown : known c ≡ false → None ≡ end_from at (read_pattern known (drop at b))
     unfolding end_from read_pattern provided
     pattern_unknown k = rw (length-drop at b, lt-ltb 0 (length b - at) (omega arith), head_at at b, ← h, k)
 
-    pub pattern_cut : known c ≡ true → length b - at < pattern_size c → Malformed ≡ end_from at (read_pattern known (drop at b))
+    pub pattern_cut : known c ≡ true → length b - at < pattern_size c → None ≡ end_from at (read_pattern known (drop at b))
     unfolding end_from read_pattern provided
     pattern_cut k m = rw (length-drop at b, lt-ltb 0 (length b - at) (omega arith), head_at at b, ← h, k, lt-leb (pattern_size c) (length b - at) m)
 
-    pub pattern_whole : known c ≡ true → pattern_size c ≤ length b - at → Bytes (at + pattern_size c) ≡ end_from at (read_pattern known (drop at b))
+    pub pattern_whole : known c ≡ true → pattern_size c ≤ length b - at → Some (at + pattern_size c) ≡ end_from at (read_pattern known (drop at b))
     unfolding end_from read_pattern provided
     pattern_whole k m = rw (length-drop at b, lt-ltb 0 (length b - at) (omega arith), head_at at b, ← h, k, le-leb (pattern_size c) (length b - at) m)
 
@@ -94,8 +94,8 @@ module _ (known : ℕ → Bool) (b : List ℕ) (at : ℕ) (h : is_read (read_pat
   pub pattern_there : is_read (read_pattern any_code (drop at b)) ≡ true
   pattern_there = rw same-pattern h
 
-  pub pattern_skip : (r : ℕ) → r ≡ skip_to at (read_pattern any_code (drop at b)) → end_from at (read_pattern known (drop at b)) ≡ Bytes r
-  pattern_skip r e = skip_is at (read_pattern known (drop at b)) h ∙ ap Bytes (sym (e ∙ ap (skip_to at) same-pattern))
+  pub pattern_skip : (r : ℕ) → r ≡ skip_to at (read_pattern any_code (drop at b)) → end_from at (read_pattern known (drop at b)) ≡ Some r
+  pattern_skip r e = skip_is at (read_pattern known (drop at b)) h ∙ ap Some (sym (e ∙ ap (skip_to at) same-pattern))
 
 -- it takes as many bytes as its code says
 module _ (b : List ℕ) (at : ℕ) (h : is_read (read_pattern any_code (drop at b)) ≡ true) where
@@ -116,7 +116,7 @@ module _ (b : List ℕ) (at : ℕ) (h : is_read (read_pattern any_code (drop at 
 pub nothing_there : (b : List ℕ) (at : ℕ) → length b ≤ at → expression (drop at b) ≡ bad
 nothing_there b at l = no_exp (drop at b) (no_head (drop at b) (omega (arith, length-drop at b)))
 
-pub exp_none : (b : List ℕ) (at : ℕ) → length b ≤ at → Malformed ≡ end_from at (expression (drop at b))
+pub exp_none : (b : List ℕ) (at : ℕ) → length b ≤ at → None ≡ end_from at (expression (drop at b))
 unfolding end_from
 exp_none b at l = rw (nothing_there b at l)
 
@@ -125,15 +125,15 @@ exp_none b at l = rw (nothing_there b at l)
 sent_end : (r : Read Exp) (at tag : ℕ) → end_from (at + 1) r ≡ end_from at (after r (λ e n. got (send tag e) (1 + n)))
 unfolding end_from after
 sent_end bad at tag = refl
-sent_end (got e n) at tag = ap Bytes (omega arith)
+sent_end (got e n) at tag = ap Some (omega arith)
 
 module _ (known : ℕ → Bool) (b : List ℕ) (at : ℕ) where
-  pub action_none : length b ≤ at → Malformed ≡ end_from at (read_action known (drop at b))
+  pub action_none : length b ≤ at → None ≡ end_from at (read_action known (drop at b))
   unfolding end_from read_action provided
   action_none l = rw (le-ltb 0 (length (drop at b)) (omega (arith, length-drop at b)))
 
   module _ (c : ℕ) (h : c ≡ get_or b at 0) (l : at < length b) where
-    pub action_unknown : known c ≡ false → Malformed ≡ end_from at (read_action known (drop at b))
+    pub action_unknown : known c ≡ false → None ≡ end_from at (read_action known (drop at b))
     unfolding end_from read_action provided
     action_unknown k = rw (length-drop at b, lt-ltb 0 (length b - at) (omega arith), head_at at b, ← h, k)
 
@@ -141,7 +141,7 @@ module _ (known : ℕ → Bool) (b : List ℕ) (at : ℕ) where
     unfolding read_action provided
     action_sent k e = rw (length-drop at b, lt-ltb 0 (length b - at) (omega arith), head_at at b, ← h, k, e, drop-drop 1 at b) (sent_end (expression (drop (at + 1) b)) at (sent_tag c))
 
-    pub action_bare : known c ≡ true → holds_expression c ≡ false → Bytes (at + 1) ≡ end_from at (read_action known (drop at b))
+    pub action_bare : known c ≡ true → holds_expression c ≡ false → Some (at + 1) ≡ end_from at (read_action known (drop at b))
     unfolding end_from read_action provided
     action_bare k e = rw (length-drop at b, lt-ltb 0 (length b - at) (omega arith), head_at at b, ← h, k, e)
 
@@ -154,8 +154,8 @@ module _ (known : ℕ → Bool) (b : List ℕ) (at : ℕ) (h : is_read (read_act
   pub action_there : is_read (read_action any_code (drop at b)) ≡ true
   action_there = rw same_action h
 
-  pub action_skip : (r : ℕ) → r ≡ skip_to at (read_action any_code (drop at b)) → end_from at (read_action known (drop at b)) ≡ Bytes r
-  action_skip r e = skip_is at (read_action known (drop at b)) h ∙ ap Bytes (sym (e ∙ ap (skip_to at) same_action))
+  pub action_skip : (r : ℕ) → r ≡ skip_to at (read_action any_code (drop at b)) → end_from at (read_action known (drop at b)) ≡ Some r
+  action_skip r e = skip_is at (read_action known (drop at b)) h ∙ ap Some (sym (e ∙ ap (skip_to at) same_action))
 
 -- where an action that is there ends, by its code
 module _ (b : List ℕ) (at c : ℕ) (h : is_read (read_action any_code (drop at b)) ≡ true) (q : c ≡ get_or b at 0) where

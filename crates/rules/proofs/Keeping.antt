@@ -8,9 +8,9 @@ use native.Mathlib.Omega.{arith}
 use lib.Dec.{ltb, eqb}
 use lib.ListN.{get_or, drop, length, get_or-eq_default}
 use lib.Seq.{drop-drop}
+use Rattle.std.specs.Prelude.{Some, None}
 use Rattle.model.specs.Expressions.{Exp, Read, bad, got, after, read_many, provided, expression, expression_limits}
 use Rattle.model.specs.Rules.{Action, nothing, bare, send, bare_action, sent_tag, read_action, holds_expression, action_limits}
-use Rattle.expressions.specs.declared.Form.TheVariants.{Bytes, Malformed}
 use Rattle.expressions.specs.Reading.{limits_read, end_from}
 use Rattle.expressions.proofs.Heads.{head_at}
 use Rattle.rules.specs.Bodies.{sent_limits, limits_of}
@@ -39,14 +39,14 @@ module _ (f : List ℕ → Read Action) (b : List ℕ) where
   rest_got false bad x n e = refl
   rest_got t (got xs m) x n e = keeps_more x xs ∙ rw e
 
-  step_go : (k at end : ℕ) (r : Read Action) → end_from at r ≡ Bytes end → keeps_read r ≡ true → limits_of (after r (λ a n. after (read_many f k (drop n (drop at b))) (λ rest m. got (a ∷ rest) (n + m)))) ≡ limits_of (read_many f k (drop end b))
+  step_go : (k at end : ℕ) (r : Read Action) → end_from at r ≡ Some end → keeps_read r ≡ true → limits_of (after r (λ a n. after (read_many f k (drop n (drop at b))) (λ rest m. got (a ∷ rest) (n + m)))) ≡ limits_of (read_many f k (drop end b))
   unfolding end_from after keeps_read
   step_go k at end bad e g = let z : ◌≡◌ {A = ℕ} 0 1 = cc in absurd (omega arith)
   step_go k at end (got x n) e g =
       let q : at + n ≡ end = cc in
       rw (drop-drop n at b) (rest_got true (read_many f k (drop (at + n) b)) x n g ∙ ap (λ (j : ℕ). limits_of (read_many f k (drop j b))) q)
 
-  pub limits_step : (k at end : ℕ) → 0 < k → end_from at (f (drop at b)) ≡ Bytes end → keeps_read (f (drop at b)) ≡ true → limits_of (read_many f k (drop at b)) ≡ limits_of (read_many f (k - 1) (drop end b))
+  pub limits_step : (k at end : ℕ) → 0 < k → end_from at (f (drop at b)) ≡ Some end → keeps_read (f (drop at b)) ≡ true → limits_of (read_many f k (drop at b)) ≡ limits_of (read_many f (k - 1) (drop end b))
   unfolding read_many
   limits_step zero at end l e g = absurd (omega arith)
   limits_step (suc k) at end l e g =
@@ -68,7 +68,7 @@ module _ (f : List ℕ → Read Action) (b : List ℕ) where
   limits_none zero at l = refl
   limits_none (suc k) at l = absurd (omega arith)
 
-pub keeps_bad : (r : Read Action) (at : ℕ) → end_from at r ≡ Malformed → keeps_read r ≡ false
+pub keeps_bad : (r : Read Action) (at : ℕ) → end_from at r ≡ None → keeps_read r ≡ false
 unfolding end_from keeps_read
 keeps_bad bad at e = refl
 keeps_bad (got x n) at e = let z : ◌≡◌ {A = ℕ} 0 1 = cc in absurd (omega arith)
@@ -93,12 +93,12 @@ unfolding keeps_read
 keeps_go true s e = sent_keeps (expression (drop 1 s)) (sent_tag (get_or s 0 0))
 keeps_go false s e = bare_keeps (get_or s 0 0)
 
-keeps_by : (t : Bool) (known : ℕ → Bool) (s : List ℕ) (at end : ℕ) (r : Read Action) → end_from at (provided t r) ≡ Bytes end → keeps_read (provided t r) ≡ keeps_read r
+keeps_by : (t : Bool) (known : ℕ → Bool) (s : List ℕ) (at end : ℕ) (r : Read Action) → end_from at (provided t r) ≡ Some end → keeps_read (provided t r) ≡ keeps_read r
 unfolding provided end_from
 keeps_by true known s at end r e = refl
 keeps_by false known s at end r e = let z : ◌≡◌ {A = ℕ} 0 1 = cc in absurd (omega arith)
 
-pub keeps_is : (known : ℕ → Bool) (s : List ℕ) (at end : ℕ) → end_from at (read_action known s) ≡ Bytes end → keeps_read (read_action known s) ≡ sent_limits s
+pub keeps_is : (known : ℕ → Bool) (s : List ℕ) (at end : ℕ) → end_from at (read_action known s) ≡ Some end → keeps_read (read_action known s) ≡ sent_limits s
 unfolding read_action sent_limits
 keeps_is known s at end e =
     keeps_by (ltb 0 (length s) && known (get_or s 0 0)) known s at end (cond (holds_expression (get_or s 0 0)) (after (expression (drop 1 s)) (λ e n. got (send (sent_tag (get_or s 0 0)) e) (1 + n))) (got (bare_action (get_or s 0 0)) 1)) e

@@ -8,68 +8,29 @@ use native.Mathlib.Nat.{zero-add}
 use native.Mathlib.Omega.{arith}
 use lib.Dec.{leb, ltb, eqb}
 use lib.ListN.{drop, length}
-use borrow.Author.Tests.{eqb-true, eq-eqb, ne_eqb}
+use borrow.Author.Tests.{eqb-true}
+use Rattle.std.specs.Prelude.{Option, Some, None}
 use Rattle.model.specs.Expressions.{Read, bad, got, after, read_many, expression}
 use Rattle.model.specs.Rules.{Rule, read_pattern, read_action, read_rule, rule_read, is_whole, input_code, variable_code, output_action, variable_action}
 use Rattle.model.specs.NetworkFile.{rule_limits}
-use Rattle.expressions.specs.declared.Form.{Form}
-use Rattle.expressions.specs.declared.Form.TheVariants.{Bytes, Malformed}
 use Rattle.expressions.specs.Reading.{limits_read, end_from}
 use Rattle.shapes.specs.declared.Arity.{Arity}
 use Rattle.rules.specs.declared.Parts.{Parts}
-use Rattle.rules.specs.declared.Layout.{Layout}
-use Rattle.rules.specs.declared.Layout.TheVariants as layout
 use Rattle.rules.specs.Bodies.{pattern_codes, action_codes, patterns_from, actions_from, limits_of, next, layout_of}
-
--- ── the exits of reading part by part ────────────────────────────────────────────────────────
-
-module _ (a : Arity) (b : List ℕ) where
-  pub lay_1 : Malformed ≡ end_from 0 (patterns_from false a.ins 0 b) → layout.Malformed ≡ layout_of a b
-  unfolding layout_of next
-  lay_1 e₁ = rw (← e₁)
-
-  module _ (k : ℕ) (e₁ : Bytes k ≡ end_from 0 (patterns_from false a.ins 0 b)) where
-    pub lay_2 : Malformed ≡ end_from k (patterns_from true a.vars k b) → layout.Malformed ≡ layout_of a b
-    unfolding layout_of next
-    lay_2 e₂ = rw (← e₁, ← e₂)
-
-    module _ (l : ℕ) (e₂ : Bytes l ≡ end_from k (patterns_from true a.vars k b)) where
-      pub lay_3 : Malformed ≡ end_from l (expression (drop l b)) → layout.Malformed ≡ layout_of a b
-      unfolding layout_of next
-      lay_3 e₃ = rw (← e₁, ← e₂, ← e₃)
-
-      module _ (m : ℕ) (e₃ : Bytes m ≡ end_from l (expression (drop l b))) where
-        pub lay_4 : Malformed ≡ end_from m (actions_from false a.outs m b) → layout.Malformed ≡ layout_of a b
-        unfolding layout_of next
-        lay_4 e₄ = rw (← e₁, ← e₂, ← e₃, ← e₄)
-
-        module _ (n : ℕ) (e₄ : Bytes n ≡ end_from m (actions_from false a.outs m b)) where
-          pub lay_5 : Malformed ≡ end_from n (actions_from true a.vars n b) → layout.Malformed ≡ layout_of a b
-          unfolding layout_of next
-          lay_5 e₅ = rw (← e₁, ← e₂, ← e₃, ← e₄, ← e₅)
-
-          module _ (q : ℕ) (e₅ : Bytes q ≡ end_from n (actions_from true a.vars n b)) where
-            pub lay_6 : (q ≡ length b → ⊥) → layout.Malformed ≡ layout_of a b
-            unfolding layout_of next
-            lay_6 d = rw (← e₁, ← e₂, ← e₃, ← e₄, ← e₅, ne_eqb q (length b) d)
-
-            pub lay_7 : q ≡ length b → layout.Whole (record { vars = k; guard = l; outs = m; sets = n }) ≡ layout_of a b
-            unfolding layout_of next
-            lay_7 d = rw (← e₁, ← e₂, ← e₃, ← e₄, ← e₅, eq-eqb q (length b) d)
 
 -- ── the form of the rule ─────────────────────────────────────────────────────────────────────
 
-unfoldable pub is_laid : Layout → Bool
-is_laid layout.Malformed = false
-is_laid (layout.Whole p) = true
+unfoldable pub is_laid : Option Parts → Bool
+is_laid None = false
+is_laid (Some p) = true
 
 module _ (b : List ℕ) where
-  link : {A : Type 0} (k : ℕ) (r : Read A) (g : ℕ → Layout) (h : A → ℕ → Read Rule) → ((x : A) (n : ℕ) → is_laid (g (k + n)) ≡ is_whole (h x n) b) → is_laid (next (end_from k r) g) ≡ is_whole (after r h) b
+  link : {A : Type 0} (k : ℕ) (r : Read A) (g : ℕ → Option Parts) (h : A → ℕ → Read Rule) → ((x : A) (n : ℕ) → is_laid (g (k + n)) ≡ is_whole (h x n) b) → is_laid (next (end_from k r) g) ≡ is_whole (after r h) b
   unfolding is_laid next end_from is_whole after
   link k bad g h e = refl
   link k (got x n) g h e = e x n
 
-  laid-if : (t : Bool) (p : Parts) → is_laid (cond t (layout.Whole p) layout.Malformed) ≡ t
+  laid-if : (t : Bool) (p : Parts) → is_laid (cond t (Some p) None) ≡ t
   unfolding is_laid
   laid-if true p = refl
   laid-if false p = refl
@@ -86,15 +47,15 @@ module _ (b : List ℕ) where
 
 -- ── the parts of a whole body ────────────────────────────────────────────────────────────────
 
-pub record Went (r : Form) (f : ℕ → Layout) (p : Parts) : Type 0 where
+pub record Went (r : Option ℕ) (f : ℕ → Option Parts) (p : Parts) : Type 0 where
   pub to : ℕ
-  pub here : r ≡ Bytes to
-  pub rest : f to ≡ layout.Whole p
+  pub here : r ≡ Some to
+  pub rest : f to ≡ Some p
 
-went : (r : Form) (f : ℕ → Layout) (p : Parts) → next r f ≡ layout.Whole p → Went r f p
+went : (r : Option ℕ) (f : ℕ → Option Parts) (p : Parts) → next r f ≡ Some p → Went r f p
 unfolding next
-went Malformed f p e = let z : ◌≡◌ {A = ℕ} 0 1 = cc in absurd (omega arith)
-went (Bytes n) f p e = record { to = n; here = refl; rest = e }
+went None f p e = let z : ◌≡◌ {A = ℕ} 0 1 = cc in absurd (omega arith)
+went (Some n) f p e = record { to = n; here = refl; rest = e }
 
 pub record Found {A : Type 0} (r : Read A) (at end : ℕ) : Type 0 where
   pub thing : A
@@ -102,7 +63,7 @@ pub record Found {A : Type 0} (r : Read A) (at end : ℕ) : Type 0 where
   pub read : r ≡ got thing size
   pub ends : end ≡ at + size
 
-pub found : {A : Type 0} (r : Read A) (at end : ℕ) → end_from at r ≡ Bytes end → Found r at end
+pub found : {A : Type 0} (r : Read A) (at end : ℕ) → end_from at r ≡ Some end → Found r at end
 unfolding end_from
 found bad at end e = let z : ◌≡◌ {A = ℕ} 0 1 = cc in absurd (omega arith)
 found (got x n) at end e = record { thing = x; size = n; read = refl; ends = cc }
@@ -115,11 +76,11 @@ pub record Laid (a : Arity) (b : List ℕ) (p : Parts) : Type 0 where
   pub outs : Found (actions_from false a.outs p.outs b) p.outs p.sets
   pub sets : Found (actions_from true a.vars p.sets b) p.sets (length b)
 
-whole_if : (t : Bool) (q p : Parts) → cond t (layout.Whole q) layout.Malformed ≡ layout.Whole p → (t ≡ true) × (q ≡ p)
+whole_if : (t : Bool) (q p : Parts) → cond t (Some q) None ≡ Some p → (t ≡ true) × (q ≡ p)
 whole_if true q p e = (refl, cc)
 whole_if false q p e = let z : ◌≡◌ {A = ℕ} 0 1 = cc in absurd (omega arith)
 
-pub laid : (a : Arity) (b : List ℕ) (p : Parts) → layout_of a b ≡ layout.Whole p → Laid a b p
+pub laid : (a : Arity) (b : List ℕ) (p : Parts) → layout_of a b ≡ Some p → Laid a b p
 unfolding layout_of
 laid a b p e =
     let w₁ = went (end_from 0 (patterns_from false a.ins 0 b)) _ p e in
@@ -128,7 +89,7 @@ laid a b p e =
     let w₄ = went (end_from w₃.to (actions_from false a.outs w₃.to b)) _ p w₃.rest in
     let w₅ = went (end_from w₄.to (actions_from true a.vars w₄.to b)) _ p w₄.rest in
     let w = whole_if (eqb w₅.to (length b)) (record { vars = w₁.to; guard = w₂.to; outs = w₃.to; sets = w₄.to }) p w₅.rest in
-    let last : end_from w₄.to (actions_from true a.vars w₄.to b) ≡ Bytes (length b) = w₅.here ∙ ap Bytes (eqb-true w₅.to (length b) w.0) in
+    let last : end_from w₄.to (actions_from true a.vars w₄.to b) ≡ Some (length b) = w₅.here ∙ ap Some (eqb-true w₅.to (length b) w.0) in
     let there : Laid a b (record { vars = w₁.to; guard = w₂.to; outs = w₃.to; sets = w₄.to }) = record {
       ins = found (patterns_from false a.ins 0 b) 0 w₁.to w₁.here;
       vars = found (patterns_from true a.vars w₁.to b) w₁.to w₂.to w₂.here;

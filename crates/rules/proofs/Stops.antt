@@ -7,15 +7,14 @@ use native.Mathlib.Omega.{arith}
 use lib.Dec.{leb, ltb}
 use lib.ListN.{drop}
 use borrow.Author.Tests.{lt-ltb, le-ltb, eq-eqb, ne_eqb}
+use Rattle.std.specs.Prelude.{Option, Some, None}
 use Rattle.model.specs.Expressions.{expression}
 use Rattle.model.specs.Rules.{read_pattern, read_action}
 use Rattle.expressions.specs.Reading.{end_from}
-use Rattle.expressions.specs.declared.Form.{Form}
-use Rattle.expressions.specs.declared.Form.TheVariants.{Bytes, Malformed}
 use Rattle.shapes.specs.declared.Arity.{Arity}
 use Rattle.rules.specs.Bodies.{pattern_codes, action_codes, part_end, stop_or, read_from, read_to}
 
-module _ (a : Arity) (b : List ℕ) (k at : ℕ) {r : Form} where
+module _ (a : Arity) (b : List ℕ) (k at : ℕ) {r : Option ℕ} where
   pub part_pattern : k < a.ins + a.vars → r ≡ end_from at (read_pattern (pattern_codes (leb a.ins k)) (drop at b)) → r ≡ part_end a k at b
   unfolding part_end
   part_pattern h e = rw (lt-ltb k (a.ins + a.vars) h) e
@@ -30,12 +29,12 @@ module _ (a : Arity) (b : List ℕ) (k at : ℕ) {r : Form} where
 
 module _ (a : Arity) (b : List ℕ) (n k at : ℕ) where
   -- a part that cannot be read
-  pub read_stop : k < n → part_end a k at b ≡ Malformed → read_from a b (n - k) k at ≡ at
+  pub read_stop : k < n → part_end a k at b ≡ None → read_from a b (n - k) k at ≡ at
   unfolding read_from stop_or
   read_stop h e = let q : n - k ≡ suc (n - (k + 1)) = omega arith in rw (q, e)
 
   -- a part that ends
-  pub read_on : (end : ℕ) → k < n → part_end a k at b ≡ Bytes end → read_from a b (n - k) k at ≡ read_from a b (n - (k + 1)) (k + 1) end
+  pub read_on : (end : ℕ) → k < n → part_end a k at b ≡ Some end → read_from a b (n - k) k at ≡ read_from a b (n - (k + 1)) (k + 1) end
   unfolding read_from stop_or
   read_on end h e =
       let q : n - k ≡ suc (n - (k + 1)) = omega arith in

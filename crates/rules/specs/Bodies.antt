@@ -1,15 +1,11 @@
 -- A rule's body read part by part: where each part ends, and what all of them come to.
 -- Assumes nothing.
-use Rattle.std.specs.Prelude.{ℕ, zero, suc, ◌+◌, ◌≡◌, Bool, true, false, cond, List, leb, ltb, eqb, get_or, drop, length}
+use Rattle.std.specs.Prelude.{ℕ, zero, suc, ◌+◌, ◌≡◌, Bool, true, false, cond, List, Option, Some, None, option_and_then, leb, ltb, eqb, get_or, drop, length}
 use Rattle.model.specs.Expressions.{Read, bad, got, read_many, expression}
 use Rattle.model.specs.Rules.{Pattern, Action, input_code, variable_code, output_action, variable_action, read_pattern, read_action, holds_expression, action_limits}
-use Rattle.expressions.specs.declared.Form.{Form}
-use Rattle.expressions.specs.declared.Form.TheVariants.{Bytes, Malformed}
 use Rattle.expressions.specs.Reading.{end_from, limits_read}
 use Rattle.shapes.specs.declared.Arity.{Arity}
 use Rattle.rules.specs.declared.Parts.{Parts}
-use Rattle.rules.specs.declared.Layout.{Layout}
-use Rattle.rules.specs.declared.Layout.TheVariants as layout
 
 -- the codes of a variable's pattern, or of an input's
 unfoldable pub pattern_codes : Bool → ℕ → Bool
@@ -38,39 +34,38 @@ unfoldable pub limits_of : Read (List Action) → Bool  -- they are there, and t
 limits_of bad = false
 limits_of (got xs n) = action_limits xs
 
-unfoldable pub next : Form → (ℕ → Layout) → Layout  -- go on from where a part ends
-next Malformed f = layout.Malformed
-next (Bytes n) f = f n
+abbrev pub next : Option ℕ → (ℕ → Option Parts) → Option Parts  -- go on from where a part ends
+next end f = option_and_then f end
 
 -- where the parts after the input patterns begin, if they take the whole body
-unfoldable pub layout_of : Arity → List ℕ → Layout
+unfoldable pub layout_of : Arity → List ℕ → Option Parts
 layout_of a b =
     next (end_from 0 (patterns_from false a.ins 0 b))
     (λ k. next (end_from k (patterns_from true a.vars k b))
     (λ l. next (end_from l (expression (drop l b)))
     (λ m. next (end_from m (actions_from false a.outs m b))
     (λ n. next (end_from n (actions_from true a.vars n b))
-    (λ q. cond (eqb q (length b)) (layout.Whole (record { vars = k; guard = l; outs = m; sets = n })) layout.Malformed)))))
+    (λ q. cond (eqb q (length b)) (Some (record { vars = k; guard = l; outs = m; sets = n })) None)))))
 
 pub record Parted (a : Arity) (b : List ℕ) : Type 0 where  -- a body with its parts
   pub parts : Parts
-  pub whole : layout_of a b ≡ layout.Whole parts
+  pub whole : layout_of a b ≡ Some parts
 
-unfoldable pub outs_at : Layout → ℕ  -- where its output actions begin
-outs_at layout.Malformed = 0
-outs_at (layout.Whole p) = p.outs
+unfoldable pub outs_at : Option Parts → ℕ  -- where its output actions begin
+outs_at None = 0
+outs_at (Some p) = p.outs
 
 -- where part k of a body ends, from its offset: input patterns, variable patterns, the guard, output actions, variable actions
-unfoldable pub part_end : Arity → ℕ → ℕ → List ℕ → Form
+unfoldable pub part_end : Arity → ℕ → ℕ → List ℕ → Option ℕ
 part_end a k at b =
     let guard = a.ins + a.vars in
     cond (ltb k guard) (end_from at (read_pattern (pattern_codes (leb a.ins k)) (drop at b)))
     (cond (eqb k guard) (end_from at (expression (drop at b)))
     (end_from at (read_action (action_codes (ltb (guard + a.outs) k)) (drop at b))))
 
-unfoldable pub stop_or : Form → ℕ → (ℕ → ℕ) → ℕ  -- stop where a part cannot be read, or go on from its end
-stop_or Malformed at f = at
-stop_or (Bytes end) at f = f end
+unfoldable pub stop_or : Option ℕ → ℕ → (ℕ → ℕ) → ℕ  -- stop where a part cannot be read, or go on from its end
+stop_or None at f = at
+stop_or (Some end) at f = f end
 
 unfoldable pub read_from : Arity → List ℕ → ℕ → ℕ → ℕ → ℕ  -- how far n parts from part k on can be read
 read_from a b zero k at = at

@@ -7,7 +7,6 @@ ghost use Rattle.model.specs.Rules.{pattern_size, read_pattern, read_action, hol
 ghost use Rattle.expressions.specs.Reading.{end_from, is_read, skip_to, limits_read};
 ghost use Rattle.rules.specs.Bodies.{pattern_codes, action_codes, any_code, patterns_from, actions_from, sent_limits, layout_of, part_end, read_to};
 
-use expressions::Form;
 use shapes::Arity;
 
 // Where a rule's variable patterns, its guard, its output actions and its variable actions begin.
@@ -17,13 +16,6 @@ pub struct Parts {
     pub guard: usize,
     pub outs: usize,
     pub sets: usize,
-}
-
-// The parts of a whole body, or a fault of form.
-#[derive(Clone, Copy)]
-pub enum Layout {
-    Whole { parts: Parts },
-    Malformed,
 }
 
 // A code of a variable's pattern, or of an input's.
@@ -46,22 +38,22 @@ pub fn pattern_size(c: u8) -> usize
     1
 }
 
-// Where the pattern at an offset ends.
-pub fn pattern_end(b: &[u8], at: usize, var: bool) -> Form
+// Where the pattern at an offset ends, if one is there.
+pub fn pattern_end(b: &[u8], at: usize, var: bool) -> Option<usize>
     ensures { result ≡ end_from at (read_pattern (pattern_codes var) (drop at b.now)) }
 {
     if b.len() <= at {
-        return Form::Malformed;
+        return None;
     }
     let c = b[at];
     if !pattern_known(c, var) {
-        return Form::Malformed;
+        return None;
     }
     let n = pattern_size(c);
     if b.len() - at < n {
-        return Form::Malformed;
+        return None;
     }
-    Form::Bytes(at + n)
+    Some(at + n)
 }
 
 // The offset after the pattern at an offset, where one is known to stand: nothing is checked again.
@@ -72,28 +64,23 @@ pub fn skip_pattern(b: &[u8], at: usize) -> usize
     at + pattern_size(b[at])
 }
 
-// Where n patterns from an offset on end.
-fn patterns_end(b: &[u8], from: usize, n: usize, var: bool) -> Form
+// Where n patterns from an offset on end, if they are there.
+fn patterns_end(b: &[u8], from: usize, n: usize, var: bool) -> Option<usize>
     ensures { result ≡ end_from from (patterns_from var n from b.now) }
 {
     let mut at = from;
-    let mut left = n;
-    while 0 < left {
-        let Form::Bytes(end) = pattern_end(b, at, var) else {
-            return Form::Malformed;
-        };
-        at = end;
-        left -= 1;
+    for _ in 0..n {
+        at = pattern_end(b, at, var)?;
     }
-    Form::Bytes(at)
+    Some(at)
 }
 
-// Where the expression at an offset ends.
-pub fn expression_end(b: &[u8], at: usize) -> Form
+// Where the expression at an offset ends, if one is there.
+pub fn expression_end(b: &[u8], at: usize) -> Option<usize>
     ensures { result ≡ end_from at (expression (drop at b.now)) }
 {
     if b.len() <= at {
-        return Form::Malformed;
+        return None;
     }
     expressions::end_of(b, at)
 }
@@ -115,21 +102,21 @@ pub fn holds_expression(c: u8) -> bool
     (c == 1) | (c == 5)
 }
 
-// Where the action at an offset ends.
-pub fn action_end(b: &[u8], at: usize, var: bool) -> Form
+// Where the action at an offset ends, if one is there.
+pub fn action_end(b: &[u8], at: usize, var: bool) -> Option<usize>
     ensures { result ≡ end_from at (read_action (action_codes var) (drop at b.now)) }
 {
     if b.len() <= at {
-        return Form::Malformed;
+        return None;
     }
     let c = b[at];
     if !action_known(c, var) {
-        return Form::Malformed;
+        return None;
     }
     if holds_expression(c) {
         return expression_end(b, at + 1);
     }
-    Form::Bytes(at + 1)
+    Some(at + 1)
 }
 
 // The offset after the action at an offset, where one is known to stand: nothing is checked again.
@@ -144,56 +131,40 @@ pub fn skip_action(b: &[u8], at: usize) -> usize
     at + 1
 }
 
-// Where n actions from an offset on end.
-fn actions_end(b: &[u8], from: usize, n: usize, var: bool) -> Form
+// Where n actions from an offset on end, if they are there.
+fn actions_end(b: &[u8], from: usize, n: usize, var: bool) -> Option<usize>
     ensures { result ≡ end_from from (actions_from var n from b.now) }
 {
     let mut at = from;
-    let mut left = n;
-    while 0 < left {
-        let Form::Bytes(end) = action_end(b, at, var) else {
-            return Form::Malformed;
-        };
-        at = end;
-        left -= 1;
+    for _ in 0..n {
+        at = action_end(b, at, var)?;
     }
-    Form::Bytes(at)
+    Some(at)
 }
 
-// The five parts one after another, each from where the one before it ends.
-pub fn parts_of(b: &[u8], a: Arity) -> Layout
+// Where the parts of a whole body begin: the five one after another, each from where the one before it ends. None at a fault of form.
+#[tactic(auto, unfolding(crate::specs::Bodies::layout_of))]
+pub fn parts_of(b: &[u8], a: Arity) -> Option<Parts>
     ensures { result ≡ layout_of a b.now }
 {
-    let Form::Bytes(vars) = patterns_end(b, 0, a.ins, false) else {
-        return Layout::Malformed;
-    };
-    let Form::Bytes(guard) = patterns_end(b, vars, a.vars, true) else {
-        return Layout::Malformed;
-    };
-    let Form::Bytes(outs) = expression_end(b, guard) else {
-        return Layout::Malformed;
-    };
-    let Form::Bytes(sets) = actions_end(b, outs, a.outs, false) else {
-        return Layout::Malformed;
-    };
-    let Form::Bytes(end) = actions_end(b, sets, a.vars, true) else {
-        return Layout::Malformed;
-    };
+    let vars = patterns_end(b, 0, a.ins, false)?;
+    let guard = patterns_end(b, vars, a.vars, true)?;
+    let outs = expression_end(b, guard)?;
+    let sets = actions_end(b, outs, a.outs, false)?;
+    let end = actions_end(b, sets, a.vars, true)?;
     if end != b.len() {
-        return Layout::Malformed;
+        return None;
     }
-    Layout::Whole {
-        parts: Parts {
-            vars,
-            guard,
-            outs,
-            sets,
-        },
-    }
+    Some(Parts {
+        vars,
+        guard,
+        outs,
+        sets,
+    })
 }
 
 // Where part k of a body ends, from its offset: input patterns, variable patterns, the guard, output actions, variable actions.
-fn part_end(b: &[u8], at: usize, a: Arity, k: usize) -> Form
+fn part_end(b: &[u8], at: usize, a: Arity, k: usize) -> Option<usize>
     requires { (a.ins ≤ 4) × (a.outs ≤ 4) × (a.vars ≤ 4) }
     ensures { result ≡ part_end a k at b.now }
 {
@@ -215,13 +186,11 @@ pub fn read_to(b: &[u8], a: Arity) -> usize
 {
     let n = a.ins + a.vars + 1 + a.outs + a.vars;
     let mut at = 0;
-    let mut k = 0;
-    while k < n {
-        let Form::Bytes(end) = part_end(b, at, a, k) else {
+    for k in 0..n {
+        let Some(end) = part_end(b, at, a, k) else {
             return at;
         };
         at = end;
-        k += 1;
     }
     at
 }

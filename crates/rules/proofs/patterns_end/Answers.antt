@@ -1,26 +1,29 @@
-use mathlib.Core.Path.{sym, ◌∙◌}
+use Rattle.std.proofs.Common.{◌≡◌, ◌+◌, ◌-◌, sym, ◌∙◌, arith}
+use Rattle.std.proofs.Math.Nat.{sub-zero}
 use Rattle.model.specs.Rules.{read_pattern}
 use Rattle.rules.specs.Bodies.{pattern_codes, patterns_from}
 use Rattle.rules.proofs.Ends.{end_step, end_bad, end_none}
 use Rattle.rules.proofs.patterns_end.Goals as goal
 
-pub returns-in_default : goal.returns-in_default
-unfolding patterns_from
-returns-in_default c =
-    let a = c.args in
-    let i = c.loop-left in
-    sym (end_bad (read_pattern (pattern_codes a.var)) a.b.now i.left i.at c.loop-left-test.true (sym c.pattern_end.ensures ∙ c.in_default.is)) ∙ i.invariant
+pub loop-init : goal.loop-init
+loop-init c = rw sub-zero
 
-pub loop-left-preserved : goal.loop-left-preserved
+pub returns-in_err-at : goal.returns-in_err-at
 unfolding patterns_from
-loop-left-preserved c =
-    let a = c.args in
-    let i = c.loop-left in
-    sym (end_step (read_pattern (pattern_codes a.var)) a.b.now i.left i.at c.in-Bytes.end c.loop-left-test.true (sym c.pattern_end.ensures ∙ c.in-Bytes.is)) ∙ i.invariant
+returns-in_err-at c =
+    let i = c.loop in
+    let none = end_bad (read_pattern (pattern_codes c.args.var)) c.args.b.now (c.args.n - i.counter) i.at (omega arith) (sym c.pattern_end.ensures ∙ c.in_err-at.was) in
+    c.from_residual.ensures ∙ sym none ∙ i.invariant
+
+pub loop-preserved : goal.loop-preserved
+unfolding patterns_from
+loop-preserved c =
+    let i = c.loop in
+    let left = c.args.n - i.counter in
+    let one_less : c.args.n - (i.counter + 1) ≡ left - 1 = omega arith in
+    let on = end_step (read_pattern (pattern_codes c.args.var)) c.args.b.now left i.at _ (omega arith) (sym c.pattern_end.ensures ∙ c.in_ok-at.was) in
+    rw one_less (sym on ∙ i.invariant)
 
 pub returns : goal.returns
 unfolding patterns_from
-returns c =
-    let a = c.args in
-    let i = c.loop-left in
-    sym (end_none (read_pattern (pattern_codes a.var)) a.b.now i.left i.at c.loop-left-test.false) ∙ i.invariant
+returns c = sym (end_none (read_pattern (pattern_codes c.args.var)) c.args.b.now (c.args.n - c.loop.counter) c.loop.at (omega arith)) ∙ c.loop.invariant
