@@ -11,10 +11,10 @@ use lib.Signed.{mag, quot_z, rem_z}
 use lib.Bits.{bit_and, bit_or, and_lt, or_lt}
 use lib.Pow.{ones_sub-lt}
 use Rattle.model.specs.declared.Ty.{Ty}
-use Rattle.model.specs.declared.Outcome.{Outcome}
-use Rattle.model.specs.declared.Outcome.TheVariants.{Value, Fault}
+use Rattle.std.specs.Prelude.{Ok, Err}
+use Rattle.model.specs.declared.Fault.TheVariants.{ZeroDivisor}
 use Rattle.model.specs.Bytes.{mod_z}
-use Rattle.model.specs.Values.{bool, within, pattern, read_back, wrap, truth, eq_z, is_true, arithmetic, bitwise, compare, logic, apply, apply_one}
+use Rattle.model.specs.Values.{bool, within, pattern, read_back, wrap, truth, eq_z, is_true, Outcome, gives, arithmetic, bitwise, compare, logic, apply, apply_one}
 use Rattle.model.proofs.Wrapping.{pow_30, read_mag, read_within, wrap_mag, wrap_within, pattern_lt}
 
 -- a type of precision 1 to 30, and a value that 32 bits hold
@@ -24,8 +24,8 @@ pub record Small (t : Ty) (z : ℤ) : Type 0 where
   pub small : mag z ≤ 2 ^ 31
 
 unfoldable pub Sound : Outcome → Type 0  -- of a fault nothing is asked
-Sound (Value t z) = Small t z
-Sound (Fault n) = Unit {0}
+Sound (Ok v) = Small v.ty v.value
+Sound (Err x) = Unit {0}
 
 pub sound_cond : (b : Bool) (x y : Outcome) → Sound x → Sound y → Sound (cond b x y)
 sound_cond true x y h k = h
@@ -46,11 +46,11 @@ module _ (t : Ty) (l : 1 ≤ t.p) (h : t.p ≤ 30) where
   arithmetic_sound : (o : ℕ) (a b : ℤ) → Sound (arithmetic o t a b)
   unfolding Sound arithmetic
   arithmetic_sound o a b =
-      sound_cond (eqb o 10) (Value t (wrap t (a +ℤ b))) _ (wrap_small (a +ℤ b))
-      (sound_cond (eqb o 11) (Value t (wrap t (a -ℤ b))) _ (wrap_small (a -ℤ b))
-      (sound_cond (eqb o 12) (Value t (wrap t (a *ℤ b))) _ (wrap_small (a *ℤ b))
-      (sound_cond (eq_z b (pos 0)) (Fault 9) _ tt
-      (sound_cond (eqb o 13) (Value t (wrap t (quot_z a b))) (Value t (wrap t (rem_z a b))) (wrap_small (quot_z a b)) (wrap_small (rem_z a b))))))
+      sound_cond (eqb o 10) (gives t (wrap t (a +ℤ b))) _ (wrap_small (a +ℤ b))
+      (sound_cond (eqb o 11) (gives t (wrap t (a -ℤ b))) _ (wrap_small (a -ℤ b))
+      (sound_cond (eqb o 12) (gives t (wrap t (a *ℤ b))) _ (wrap_small (a *ℤ b))
+      (sound_cond (eq_z b (pos 0)) (Err ZeroDivisor) _ tt
+      (sound_cond (eqb o 13) (gives t (wrap t (quot_z a b))) (gives t (wrap t (rem_z a b))) (wrap_small (quot_z a b)) (wrap_small (rem_z a b))))))
 
   small_cond : (b : Bool) (x y : ℤ) → Small t x → Small t y → Small t (cond b x y)
   small_cond true x y i j = i
@@ -72,11 +72,11 @@ module _ (t : Ty) (l : 1 ≤ t.p) (h : t.p ≤ 30) where
   unfolding Sound apply
   apply_sound o a b =
       sound_cond (leb o 14) (arithmetic o t a b) _ (arithmetic_sound o a b)
-      (sound_cond (leb o 19) (Value t (bitwise o t a b)) _ (bitwise_small o a b)
-      (sound_cond (leb o 25) (Value bool (truth (compare o a b))) (Value bool (truth (logic o a b))) (bool_small (compare o a b)) (bool_small (logic o a b))))
+      (sound_cond (leb o 19) (gives t (bitwise o t a b)) _ (bitwise_small o a b)
+      (sound_cond (leb o 25) (gives bool (truth (compare o a b))) (gives bool (truth (logic o a b))) (bool_small (compare o a b)) (bool_small (logic o a b))))
 
   pub apply_one_sound : (o : ℕ) (a : ℤ) → Sound (apply_one o t a)
   unfolding Sound apply_one
   apply_one_sound o a =
-      sound_cond (eqb o 4) (Value bool (truth (not (is_true a)))) (Value t (read_back t (2 ^ t.p - 1 - pattern t a))) (bool_small (not (is_true a)))
+      sound_cond (eqb o 4) (gives bool (truth (not (is_true a)))) (gives t (read_back t (2 ^ t.p - 1 - pattern t a))) (bool_small (not (is_true a)))
       (read_small (2 ^ t.p - 1 - pattern t a) (ones_sub-lt t.p (pattern t a)))

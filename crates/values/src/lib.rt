@@ -4,12 +4,15 @@
 ghost use Rattle.std.specs.Prelude.{◌≡◌, ◌^◌, ◌-◌, ◌≤◌, ◌<◌, pos};
 ghost use Rattle.std.specs.Int.Signed.{mag};
 ghost use Rattle.model.specs.Values.{is_bool, is_number, is_dc, carried as carried_of, same_type, in_precision, well_sized, is_plain, within as within_of};
-ghost use Rattle.model.specs.Values.{pattern as pattern_of, read_back, wrap as wrap_of, truth as truth_of, arithmetic as arithmetic_of};
+ghost use Rattle.model.specs.Values.{pattern as pattern_of, read_back, wrap as wrap_of, truth as truth_of, gives, arithmetic as arithmetic_of};
 ghost use Rattle.model.specs.Values.{bitwise as bitwise_of, compare as compare_of, logic as logic_of, apply as apply_of, apply_one};
 ghost use Rattle.model.specs.Rules.{tag_fits};
 ghost use Rattle.model.specs.States.{token_fits};
 
-use model::{Outcome, Token, Ty};
+use model::{Fault, Outcome, Token, Ty, Value};
+
+// The type of a truth value.
+const BOOL: Ty = Ty { kind: 0, p: 1 };
 
 // 2^p.
 pub fn power(p: u8) -> i64
@@ -94,10 +97,11 @@ pub fn carried(t: Ty) -> Ty
 }
 
 // The same kind and the same precision.
+#[tactic(auto, unfolding(model::specs::Values::same_type))]
 pub fn same_type(t: Ty, u: Ty) -> bool
     ensures { result ≡ same_type t u }
 {
-    (t.kind == u.kind) & (t.p == u.p)
+    t == u
 }
 
 // Precision 1 to 30.
@@ -173,25 +177,26 @@ pub fn ones(p: u8) -> u64
 }
 
 // 1 for true.
+#[tactic(auto, unfolding(model::specs::Values::truth))]
 pub fn truth(b: bool) -> i64
     ensures { result ≡ truth_of b }
 {
-    if b { 1 } else { 0 }
+    i64::from(b)
 }
 
 // A result of arithmetic: the number, wrapped to its type.
 fn wrapped(t: Ty, x: i64) -> Outcome
     requires le_p { 1 ≤ t.p }
     requires p_bound { t.p ≤ 62 }
-    ensures { result ≡ Outcome.Value t (wrap_of t x) }
+    ensures { result ≡ gives t (wrap_of t x) }
 {
-    Outcome::Value {
+    Ok(Value {
         ty: t,
         value: wrap(t, x),
-    }
+    })
 }
 
-// + - * / mod; a zero divisor is fault 9.
+// + - * / mod; nothing is divided by zero.
 pub fn arithmetic(o: u8, t: Ty, a: i64, b: i64) -> Outcome
     requires le_p { 1 ≤ t.p }
     requires p_bound { t.p ≤ 30 }
@@ -203,15 +208,9 @@ pub fn arithmetic(o: u8, t: Ty, a: i64, b: i64) -> Outcome
         10 => wrapped(t, a + b),
         11 => wrapped(t, a - b),
         12 => wrapped(t, a * b),
-        _ => {
-            if b == 0 {
-                return Outcome::Fault { number: 9 };
-            }
-            match o {
-                13 => wrapped(t, a / b),
-                _ => wrapped(t, a % b),
-            }
-        }
+        _ if b == 0 => Err(Fault::ZeroDivisor),
+        13 => wrapped(t, a / b),
+        _ => wrapped(t, a % b),
     }
 }
 
@@ -271,18 +270,18 @@ pub fn apply(o: u8, t: Ty, a: i64, b: i64) -> Outcome
 {
     match o {
         0..=14 => arithmetic(o, t, a, b),
-        15..=19 => Outcome::Value {
+        15..=19 => Ok(Value {
             ty: t,
             value: bitwise(o, t, a, b),
-        },
-        20..=25 => Outcome::Value {
-            ty: Ty { kind: 0, p: 1 },
+        }),
+        20..=25 => Ok(Value {
+            ty: BOOL,
             value: truth(compare(o, a, b)),
-        },
-        _ => Outcome::Value {
-            ty: Ty { kind: 0, p: 1 },
+        }),
+        _ => Ok(Value {
+            ty: BOOL,
             value: truth(logic(o, a, b)),
-        },
+        }),
     }
 }
 
@@ -293,14 +292,14 @@ pub fn apply_one(o: u8, t: Ty, a: i64) -> Outcome
     ensures { result ≡ apply_one o t a }
 {
     if o == 4 {
-        return Outcome::Value {
-            ty: Ty { kind: 0, p: 1 },
+        return Ok(Value {
+            ty: BOOL,
             value: truth(a == 0),
-        };
+        });
     }
     let x = pattern(t, a);
-    Outcome::Value {
+    Ok(Value {
         ty: t,
         value: read_back(t, ones(t.p) - x),
-    }
+    })
 }

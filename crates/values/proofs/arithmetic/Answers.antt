@@ -1,5 +1,6 @@
 use mathlib.Core.Path.{◌≡◌, sym, ◌∙◌}
 use mathlib.Core.Bool.{true, false}
+use native.Mathlib.Omega.{arith}
 use borrow.Author.Tests.{eq-eqb, ne_eqb}
 use lib.IntN.{ℤ, pos, ◌+ℤ◌, ◌-ℤ◌, ◌*ℤ◌}
 use lib.Signed.{quot_z, rem_z}
@@ -17,37 +18,40 @@ module _ {b : ℤ} (h : SFits w64 b) where
   not_zero : (of_z w64 b ≡ 0 → ⊥) → eq_z b (pos 0) ≡ false
   not_zero n = sym (zero_bits b h) ∙ ne_eqb (of_z w64 b) 0 n
 
-pub returns-then-b-eq0 : goal.returns-then-b-eq0
+pub returns-in_default : goal.returns-in_default
 unfolding arithmetic
-returns-then-b-eq0 c =
+returns-in_default c =
     let o = c.args.o in
-    let r = c.in_default.in_default-own.rest in
-    rw (ne_eqb o 12 r.1, ne_eqb o 11 r.0.1, ne_eqb o 10 r.0.0.1, is_zero c.ranges.b c.if-b-eq0.true)
+    rw (ne_eqb o 12 (omega arith), ne_eqb o 11 (omega arith), ne_eqb o 10 (omega arith), is_zero c.ranges.b c.if-b-eq0.true)
 
 pub returns-in-10 : goal.returns-in-10
 unfolding arithmetic
-returns-in-10 c = rw (c.in-10.is, c.wrapped.ensures, bits_of ◌+ℤ◌ _ _ c.ranges.a c.ranges.b (add_fits c.args.a c.args.b c.requires.a_bound c.requires.b_bound))
+returns-in-10 c =
+    let is : c.args.o ≡ 10 = grind arith in
+    rw (is, c.wrapped-in-10.ensures, bits_of ◌+ℤ◌ _ _ c.ranges.a c.ranges.b (add_fits c.args.a c.args.b c.requires.a_bound c.requires.b_bound))
 
 pub returns-in-11 : goal.returns-in-11
 unfolding arithmetic
-returns-in-11 c = rw (c.in-11.is, c.wrapped-in-11.ensures, bits_of ◌-ℤ◌ _ _ c.ranges.a c.ranges.b (sub_fits c.args.a c.args.b c.requires.a_bound c.requires.b_bound))
+returns-in-11 c =
+    let is : c.args.o ≡ 11 = grind arith in
+    rw (is, c.wrapped-in-11.ensures, bits_of ◌-ℤ◌ _ _ c.ranges.a c.ranges.b (sub_fits c.args.a c.args.b c.requires.a_bound c.requires.b_bound))
 
 pub returns-in-12 : goal.returns-in-12
 unfolding arithmetic
-returns-in-12 c = rw (c.in-12.is, c.wrapped-in-12.ensures, bits_of ◌*ℤ◌ _ _ c.ranges.a c.ranges.b (mul_fits c.args.a c.args.b c.requires.a_bound c.requires.b_bound))
+returns-in-12 c =
+    let is : c.args.o ≡ 12 = grind arith in
+    rw (is, c.wrapped-in-12.ensures, bits_of ◌*ℤ◌ _ _ c.ranges.a c.ranges.b (mul_fits c.args.a c.args.b c.requires.a_bound c.requires.b_bound))
 
 pub returns-in-13 : goal.returns-in-13
 unfolding arithmetic
 returns-in-13 c =
     let fits = quot_fits c.args.a c.args.b c.requires.a_bound c.requires.b_bound in
-    rw (c.in-13.is, c.wrapped-in-13.ensures, not_zero c.ranges.b c.if-b-eq0.false, bits_of quot_z _ _ c.ranges.a c.ranges.b fits)
+    rw (c.in-13.is, c.wrapped.ensures, not_zero c.ranges.b c.if-b-eq0.false, bits_of quot_z _ _ c.ranges.a c.ranges.b fits)
 
-pub returns-in_default-o : goal.returns-in_default-o
+pub returns-in_default-2 : goal.returns-in_default-2
 unfolding arithmetic
-returns-in_default-o c =
+returns-in_default-2 c =
     let o = c.args.o in
-    let r = c.in_default.in_default-own.rest in
     let fits = rem_fits c.args.a c.args.b c.requires.a_bound c.requires.b_bound in
-    let other = not_zero c.ranges.b c.if-b-eq0.false in
-    rw (ne_eqb o 13 c.in_default-o.in_default-o-own.rest.1, ne_eqb o 12 r.1, ne_eqb o 11 r.0.1, ne_eqb o 10 r.0.0.1)
-    (rw (c.wrapped-in_default-o.ensures, other, bits_of rem_z _ _ c.ranges.a c.ranges.b fits))
+    rw (ne_eqb o 13 (omega arith), ne_eqb o 12 (omega arith), ne_eqb o 11 (omega arith), ne_eqb o 10 (omega arith))
+    (rw (c.wrapped-in_default-2.ensures, not_zero c.ranges.b c.if-b-eq0.false, bits_of rem_z _ _ c.ranges.a c.ranges.b fits))
