@@ -1,13 +1,11 @@
 -- Types laid out in bytes. Assumes nothing.
 use Prim.Native.Nat.{ℕ, zero, suc, ◌+◌, ◌*◌, ◌≤◌, ◌<◌}
-use mathlib.Core.Path.{◌≡◌, refl, sym, ap, ◌∙◌}
-use mathlib.Core.Bool.{Bool, true, false}
+use mathlib.Core.Path.{◌≡◌, refl, sym, ap, subst, ◌∙◌}
 use mathlib.Core.List.{List, [], ◌∷◌, map}
 use native.Mathlib.Omega.{arith}
-use lib.Dec.{ltb}
 use lib.ListN.{length, get_or, take, drop, set, length-map, length-take, length-drop, length-set, get_or-eq_default}
-use lib.Seq.{get_or-take, get_or-set_same, get_or-set_other}
-use borrow.Author.Tests.{ltb-true, ltb-false}
+use lib.Seq.{get_or-take, get_or-drop, get_or-set_same, get_or-set_other}
+use borrow.Author.Count.{below_more}
 use Rattle.model.specs.declared.Ty.{Ty}
 use Rattle.model.specs.Bytes.{two_at, stretch}
 use Rattle.model.specs.Values.{no_type}
@@ -27,14 +25,11 @@ module _ (s t : List ℕ) (wires w : ℕ) where
       let g : length (map (wire_of s) (take wires t)) ≤ w = rw l (simp length-take (omega arith)) in
       ap (λ (v : Wire). v.ty) (sym (get_or-eq_default (map (wire_of s) (take wires t)) no_wire g))
 
-  pub type_some : (o kind p : ℕ) → o ≡ get_or t w 0 → kind ≡ get_or s (o + 3) 0 → p ≡ get_or s (o + 4) 0 → w < wires → wires ≤ length t → record { kind = kind; p = p } ≡ type_in s t wires w
-  unfolding type_in wires_in wire_of type_at
-  type_some o kind p e a b h g =
+  pub type_some : (o : ℕ) → o ≡ get_or t w 0 → w < wires → wires ≤ length t → type_at s (o + 3) ≡ type_in s t wires w
+  unfolding type_in wires_in wire_of
+  type_some o e h g =
       let l : w < length (take wires t) = simp length-take (omega arith) in
-      let m : o + 4 ≡ o + 3 + 1 = omega arith in
-      (λ i. record { kind = a i; p = (b ∙ ap (λ (k : ℕ). get_or s k 0) m) i })
-      ∙ ap (λ (k : ℕ). type_at s (k + 3)) (e ∙ sym (get_or-take wires t w 0 h))
-      ∙ ap (λ (v : Wire). v.ty) (sym (get_d_map_lt (wire_of s) (take wires t) w 0 no_wire l))
+      ap (λ (k : ℕ). type_at s (k + 3)) (e ∙ sym (get_or-take wires t w 0 h)) ∙ ap (λ (v : Wire). v.ty) (sym (get_d_map_lt (wire_of s) (take wires t) w 0 no_wire l))
 
 -- the elements of a tabulated list
 pub tabulate-same : {A : Type 0} (n : ℕ) (f g : ℕ → A) → ((k : ℕ) → k < n → f k ≡ g k) → tabulate n f ≡ tabulate n g
@@ -56,16 +51,13 @@ module _ (t : List ℕ) (k a b : ℕ) (h : 2 * k + 1 < length t) where
   second : get_or put (2 * k + 1) 0 ≡ b
   second = get_or-set_same (set t (2 * k) a) (2 * k + 1) b 0 (simp length-set (omega arith))
 
-  pub pair_more : (f : ℕ → Ty) → Lays t k f → record { kind = a; p = b } ≡ f k → Lays put (k + 1) f
+  pub pair_more : (P : ℕ → Ty → Type 0) → ((j : ℕ) → j < k → P j (type_at t (2 * j))) → P k (record { kind = a; p = b }) → (j : ℕ) → j < k + 1 → P j (type_at put (2 * j))
   unfolding type_at
-  pair_more f before here = record { each = λ j g. cases j g (ltb j k) refl }
-    where
-      cases : (j : ℕ) → j < k + 1 → (q : Bool) → ltb j k ≡ q → type_at put (2 * j) ≡ f j
-      cases j g true e = let l = ltb-true j k e in (λ i. record { kind = below (2 * j) (omega arith) i; p = below (2 * j + 1) (omega arith) i }) ∙ before.each j l
-      cases j g false e =
-          let l = ltb-false j k e in
-          let m : k ≡ j = omega arith in
-          rw (← m) ((λ i. record { kind = first i; p = second i }) ∙ here)
+  pair_more P before here =
+      let new : record { kind = a; p = b } ≡ type_at put (2 * k) = sym (λ i. record { kind = first i; p = second i }) in
+      below_more (λ j. P j (type_at put (2 * j))) k
+      (λ j g. subst (P j) (sym (λ i. record { kind = below (2 * j) (omega arith) i; p = below (2 * j + 1) (omega arith) i })) (before j g))
+      (subst (P k) new here)
 
 -- the types of the wires of a stretch
 pub wire_types_lem : (ws : List Wire) (ps : List ℕ) → wire_types ws ps ≡ tabulate (length ps) (λ k. (get_or ws (get_or ps k 0) no_wire).ty)
@@ -83,16 +75,20 @@ pub length-stretch : (b : List ℕ) (at n : ℕ) → at + n ≤ length b → len
 unfolding stretch
 length-stretch b at n h = simp (length-take, length-drop) (omega arith)
 
+get_or-stretch : (b : List ℕ) (at n k : ℕ) → k < n → get_or (stretch b at n) k 0 ≡ get_or b (at + k) 0
+unfolding stretch
+get_or-stretch b at n k h = get_or-take n (drop at b) k 0 h ∙ get_or-drop at b k 0
+
 -- the shape from its three parts
 module _ (s t b : List ℕ) (wires : ℕ) where
-  wires_are : (ps types : List ℕ) (at n : ℕ) → ps ≡ stretch b at n → at + n ≤ length b → Lays types (length ps) (λ k. type_in s t wires (get_or ps k 0)) → types_in types n ≡ wire_types (wires_in s t wires) (stretch b at n)
+  wires_are : (types : List ℕ) (at n : ℕ) → at + n ≤ length b → Lays types n (λ k. type_in s t wires (get_or b (at + k) 0)) → types_in types n ≡ wire_types (wires_in s t wires) (stretch b at n)
   unfolding types_in type_in
-  wires_are ps types at n d h l =
-      let m : length ps ≡ n = ap length d ∙ length-stretch b at n h in
-      tabulate-same n (λ k. type_at types (2 * k)) (λ k. (get_or (wires_in s t wires) (get_or ps k 0) no_wire).ty) (λ k g. l.each k (omega arith))
-      ∙ ap (λ (j : ℕ). tabulate j (λ k. (get_or (wires_in s t wires) (get_or ps k 0) no_wire).ty)) (sym m)
+  wires_are types at n h l =
+      let ps : List ℕ = stretch b at n in
+      let of : ℕ → Ty = λ k. (get_or (wires_in s t wires) (get_or ps k 0) no_wire).ty in
+      tabulate-same n (λ k. type_at types (2 * k)) of (λ k g. l.each k g ∙ ap (type_in s t wires) (sym (get_or-stretch b at n k g)))
+      ∙ ap (λ (j : ℕ). tabulate j of) (sym (length-stretch b at n h))
       ∙ sym (wire_types_lem (wires_in s t wires) ps)
-      ∙ ap (wire_types (wires_in s t wires)) d
 
   module _ (i o v : ℕ) (e : i ≡ get_or b 0 0) (f : o ≡ get_or b 1 0) (g : v ≡ get_or b 2 0) where
     vars_are : (types : List ℕ) → Lays types v (λ k. type_at b (3 + i + o + 6 * k)) → types_in types v ≡ variable_types (tabulate (get_or b 2 0) (variable_of b))
@@ -102,17 +98,16 @@ module _ (s t b : List ℕ) (wires : ℕ) where
         ∙ sym (variable_types_lem v (variable_of b))
         ∙ ap (λ (n : ℕ). variable_types (tabulate n (variable_of b))) g
 
-    pub shape_is : (ins outs vars ps qs : List ℕ) → BodyFits b → ps ≡ stretch b 3 i → qs ≡ stretch b (3 + i) o
-        → Lays ins (length ps) (λ k. type_in s t wires (get_or ps k 0)) → Lays outs (length qs) (λ k. type_in s t wires (get_or qs k 0)) → Lays vars v (λ k. type_at b (3 + i + o + 6 * k))
-        → shape_in ins outs vars (record { ins = i; outs = o; vars = v }) ≡ shape_of (wires_in s t wires) (box_of b)
+    pub shape_is : (ins outs vars : List ℕ) → BodyFits b → Lays ins i (λ k. type_in s t wires (get_or b (3 + k) 0)) → Lays outs o (λ k. type_in s t wires (get_or b (3 + i + k) 0))
+        → Lays vars v (λ k. type_at b (3 + i + o + 6 * k)) → shape_in ins outs vars (record { ins = i; outs = o; vars = v }) ≡ shape_of (wires_in s t wires) (box_of b)
     unfolding shape_in shape_of box_of variable_start
-    shape_is ins outs vars ps qs fits d q lp lq lv = λ j. record {
-      ins = (wires_are ps ins 3 i d (omega arith) lp ∙ ap (λ (n : ℕ). wire_types (wires_in s t wires) (stretch b 3 n)) e) j;
-      outs = (wires_are qs outs (3 + i) o q (omega arith) lq ∙ (λ k. wire_types (wires_in s t wires) (stretch b (3 + e k) (f k)))) j;
+    shape_is ins outs vars fits li lo lv = λ j. record {
+      ins = (wires_are ins 3 i (omega (arith, fits.whole)) li ∙ ap (λ (n : ℕ). wire_types (wires_in s t wires) (stretch b 3 n)) e) j;
+      outs = (wires_are outs (3 + i) o (omega (arith, fits.whole)) lo ∙ (λ k. wire_types (wires_in s t wires) (stretch b (3 + e k) (f k)))) j;
       vars = vars_are vars lv j;
     }
 
--- the stretches of a box's ports lie in its body, and their types in eight bytes
+-- the stretches of a box's ports lie in its body
 module _ (b : List ℕ) (fits : BodyFits b) (i o : ℕ) (e : i ≡ get_or b 0 0) (f : o ≡ get_or b 1 0) where
   pub ins_inside : 3 + i ≤ length b
   unfolding variable_start
@@ -121,9 +116,6 @@ module _ (b : List ℕ) (fits : BodyFits b) (i o : ℕ) (e : i ≡ get_or b 0 0)
   pub outs_inside : 3 + i + o ≤ length b
   unfolding variable_start
   outs_inside = omega (arith, fits.whole)
-
-pub types_room : (ps b : List ℕ) (at n m : ℕ) → ps ≡ stretch b at n → at + n ≤ length b → n ≤ 4 → 8 ≤ m → 2 * length ps ≤ m
-types_room ps b at n m d h g l = let k : length ps ≡ n = ap length d ∙ length-stretch b at n h in omega arith
 
 -- the body of a box in the file
 pub body_fits : (s b : List ℕ) (o len : ℕ) → BoxFits s o → len ≡ two_at s (o + 1) → b ≡ stretch s (o + 3) len → BodyFits b

@@ -1,11 +1,11 @@
 #![tactic(auto)]
 
 // The shape of a box: the types of its wires and variables, laid out for the check of its rules.
-ghost use Rattle.std.specs.Prelude.{◌≡◌, ◌+◌, ◌*◌, ◌≤◌, ◌<◌, length, get_or};
+ghost use Rattle.std.specs.Prelude.{◌≡◌, ℕ, ◌+◌, ◌*◌, ◌≤◌, ◌<◌, ◌^◌, length, get_or};
 ghost use Rattle.model.specs.Expressions.{type_at};
 ghost use Rattle.model.specs.NetworkFile.{variable_start, body_at, box_of};
 ghost use Rattle.model.specs.Network.{shape_of};
-ghost use Rattle.shapes.specs.Shapes.{Lays, type_in, wires_in, shape_in, BodyFits, BoxFits};
+ghost use Rattle.shapes.specs.Shapes.{type_in, wires_in, shape_in, BodyFits, BoxFits};
 
 use model::Ty;
 
@@ -17,6 +17,17 @@ pub struct Arity {
     pub vars: usize,
 }
 
+// The type at an offset: its kind, then its precision.
+fn type_at(s: &[u8], at: usize) -> Ty
+    requires { at < 2 ^ 17 }
+    ensures { result ≡ type_at s.now at }
+{
+    Ty {
+        kind: octets::byte_at(s, at),
+        p: octets::byte_at(s, at + 1),
+    }
+}
+
 // The type of wire w, where the first `wires` entries of the table are the wires' offsets; no type where there is no such wire.
 pub fn wire_type(net: &[u8], table: &[u16], wires: usize, w: usize) -> Ty
     requires { wires ≤ length table.now }
@@ -25,42 +36,20 @@ pub fn wire_type(net: &[u8], table: &[u16], wires: usize, w: usize) -> Ty
     if wires <= w {
         return Ty { kind: 255, p: 0 };
     }
-    let o = octets::entry(table, w);
-    Ty {
-        kind: octets::byte_at(net, o + 3),
-        p: octets::byte_at(net, o + 4),
-    }
+    type_at(net, octets::entry(table, w) + 3)
 }
 
-// The types of the wires that `ports` names, from the start of `types` on.
-fn put_wires(net: &[u8], table: &[u16], wires: usize, ports: &[u8], types: &mut [u8])
-    requires wires_in_bounds { wires ≤ length table.now }
-    requires ports_in_bounds { 2 * length ports.now ≤ length types.old }
-    ensures { Lays types.new (length ports.now) (λ k. type_in net.now table.now wires (get_or ports.now k 0)) }
+// The n types that `of` gives, laid out from the start of `types` on.
+fn put_types<F: Fn(usize) -> Ty>(types: &mut [u8], n: usize, of: F)
+    requires n_in_bounds { 2 * n ≤ length types.old }
+    requires of_callable { (k : ℕ) → k < n → F.pre of k }
+    ensures { (k : ℕ) → k < n → F.post of k (type_at types.new (2 * k)) }
 {
-    let mut k = 0;
-    while k < ports.len() {
-        let t = wire_type(net, table, wires, octets::wide(ports[k]));
+    for k in 0..n {
+        let t = of(k);
         let at = 2 * k;
         types[at] = t.kind;
         types[at + 1] = t.p;
-        k += 1;
-    }
-}
-
-// The types of the n variables of a box's body, the first at `start`.
-fn put_variables(body: &[u8], start: usize, n: usize, types: &mut [u8])
-    requires start_bound { (start < 4000) × (n ≤ 4) }
-    requires n_in_bounds { 2 * n ≤ length types.old }
-    ensures { Lays types.new n (λ k. type_at body.now (start + 6 * k)) }
-{
-    let mut k = 0;
-    while k < n {
-        let v = start + 6 * k;
-        let at = 2 * k;
-        types[at] = octets::byte_at(body, v);
-        types[at + 1] = octets::byte_at(body, v + 1);
-        k += 1;
     }
 }
 
@@ -79,12 +68,13 @@ fn shape_in(
     requires in_bounds { (8 ≤ length ins.old) × (8 ≤ length outs.old) × (8 ≤ length vars.old) }
     ensures { shape_in ins.new outs.new vars.new result ≡ shape_of (wires_in net.now table.now wires) (box_of body.now) }
 {
-    let i = octets::wide(octets::byte_at(body, 0));
-    let n = octets::wide(octets::byte_at(body, 1));
-    let v = octets::wide(octets::byte_at(body, 2));
-    put_wires(net, table, wires, octets::part(body, 3, i), ins);
-    put_wires(net, table, wires, octets::part(body, 3 + i, n), outs);
-    put_variables(body, 3 + i + n, v, vars);
+    let i = usize::from(octets::byte_at(body, 0));
+    let n = usize::from(octets::byte_at(body, 1));
+    let v = usize::from(octets::byte_at(body, 2));
+    let wire_at = |at: usize| wire_type(net, table, wires, usize::from(octets::byte_at(body, at)));
+    put_types(ins, i, |k| wire_at(3 + k));
+    put_types(outs, n, |k| wire_at(3 + i + k));
+    put_types(vars, v, |k| type_at(body, 3 + i + n + 6 * k));
     Arity {
         ins: i,
         outs: n,

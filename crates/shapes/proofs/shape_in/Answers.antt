@@ -1,30 +1,13 @@
-use Rattle.shapes.proofs.Laws.{ins_inside, outs_inside, types_room, shape_is}
-use mathlib.Core.Path.{◌∙◌}
-use native.Mathlib.Omega.{arith}
+use Rattle.std.proofs.Common.{rules, get_or, ◌+◌, ◌*◌, ◌∙◌}
+use Rattle.model.specs.Expressions.{type_at}
+use Rattle.shapes.specs.Shapes.{Lays, type_in}
+use Rattle.shapes.proofs.Laws.{shape_is}
 use Rattle.shapes.proofs.shape_in.Goals as goal
-
-pub part-requires : goal.part-requires
-part-requires c = ins_inside _ c.requires.body_fits _ _ (c.wide-i.ensures.0 ∙ c.byte_at.ensures) (c.wide-n.ensures.0 ∙ c.byte_at-2.ensures)
-
-pub put_wires-requires-clause-ports_in_bounds : goal.put_wires-requires-clause-ports_in_bounds
-put_wires-requires-clause-ports_in_bounds c =
-    let p = c.requires in
-    let inside = ins_inside _ p.body_fits _ _ (c.wide-i.ensures.0 ∙ c.byte_at.ensures) (c.wide-n.ensures.0 ∙ c.byte_at-2.ensures) in
-    types_room _ _ _ _ _ c.part.ensures.bytes inside (omega (arith, p.body_fits.ins)) p.in_bounds.0
-
-pub part-requires-2 : goal.part-requires-2
-part-requires-2 c = outs_inside _ c.requires.body_fits _ _ (c.wide-i.ensures.0 ∙ c.byte_at.ensures) (c.wide-n.ensures.0 ∙ c.byte_at-2.ensures)
-
-pub put_wires-requires-2-clause-ports_in_bounds : goal.put_wires-requires-2-clause-ports_in_bounds
-put_wires-requires-2-clause-ports_in_bounds c =
-    let p = c.requires in
-    let inside = outs_inside _ p.body_fits _ _ (c.wide-i.ensures.0 ∙ c.byte_at.ensures) (c.wide-n.ensures.0 ∙ c.byte_at-2.ensures) in
-    types_room _ _ _ _ _ c.part-2.ensures.bytes inside (omega (arith, p.body_fits.outs)) p.in_bounds.1
 
 pub returns : goal.returns
 returns c =
-    let ins_is = c.wide-i.ensures.0 ∙ c.byte_at.ensures in
-    let outs_is = c.wide-n.ensures.0 ∙ c.byte_at-2.ensures in
-    let vars_is = c.wide-v.ensures.0 ∙ c.byte_at-3.ensures in
-    let s = shape_is _ _ _ _ _ _ _ ins_is outs_is vars_is _ _ _ _ _ c.requires.body_fits in
-    s c.part.ensures.bytes c.part-2.ensures.bytes c.put_wires.ensures c.put_wires-2.ensures c.put_variables.ensures
+    let a = c.args in
+    let ins : Lays c.put_types.new.types c.from-i.result (λ k. type_in a.net.now a.table.now a.wires (get_or a.body.now (3 + k) 0)) = record { each = λ k h. search (rules, c.put_types.ensures k h) } in
+    let outs : Lays c.put_types-2.new.types c.from-n.result (λ k. type_in a.net.now a.table.now a.wires (get_or a.body.now (3 + c.from-i.result + k) 0)) = record { each = λ k h. search (rules, c.put_types-2.ensures k h) } in
+    let vars : Lays c.put_types-3.new.types c.from-v.result (λ k. type_at a.body.now (3 + c.from-i.result + c.from-n.result + 6 * k)) = record { each = λ k h. search (rules, c.put_types-3.ensures k h) } in
+    shape_is _ _ _ _ _ _ _ (c.from-i.ensures ∙ c.byte_at.ensures) (c.from-n.ensures ∙ c.byte_at-2.ensures) (c.from-v.ensures ∙ c.byte_at-3.ensures) _ _ _ c.requires.body_fits ins outs vars
