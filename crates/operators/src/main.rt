@@ -4,33 +4,26 @@
 ghost use Rattle.std.specs.Prelude.{◌≤◌, ◌<◌, ◌^◌};
 ghost use Rattle.std.specs.Int.Signed.{mag};
 
-use model::{Outcome, Ty};
+use model::{Outcome, Ty, Value};
 use reading::read_full;
 use std::io;
 
 // The most bytes of rows that are read; what follows them is left out.
 const MOST: usize = 65536;
 
-// A value in decimal.
-fn print_value(rt: &impl Print, z: i64) -> io::Result<()> {
-    print!(rt; "{z}")
-}
-
 // What an operator gives: 3 is a cast to the type, 4 and 5 have one operand, the others two.
 fn worked(code: u8, t: Ty, a: i64, b: i64) -> Outcome
     requires le_p { (1 ≤ t.p) × (t.p ≤ 30) }
     requires a_bound { (mag a < 2 ^ 31) × (mag b < 2 ^ 31) }
 {
-    if code == 3 {
-        return Outcome::Value {
+    match code {
+        3 => Ok(Value {
             ty: t,
             value: values::wrap(t, a),
-        };
+        }),
+        0..=9 => values::apply_one(code, t, a),
+        _ => values::apply(code, t, a, b),
     }
-    if code < 10 {
-        return values::apply_one(code, t, a);
-    }
-    values::apply(code, t, a, b)
 }
 
 // One row: a line of its own, and nothing for a precision that no type has.
@@ -46,14 +39,9 @@ fn row(rt: &impl Print, s: &[u8]) -> io::Result<()> {
     let a = octets::value_at(s, 3);
     let b = octets::value_at(s, 7);
     match worked(octets::byte_at(s, 0), t, a, b) {
-        Outcome::Value { ty: _, value } => {
-            if values::within(Ty { kind: 1, p: 31 }, value) {
-                print_value(rt, value)?;
-            }
-        }
-        Outcome::Fault { number } => print!(rt; "fault {number}")?,
+        Ok(found) => println!(rt; "{}", found.value),
+        Err(fault) => println!(rt; "fault {}", fault.number()),
     }
-    println!(rt)
 }
 
 fn main(rt: HostRuntime) -> io::Result<()> {
