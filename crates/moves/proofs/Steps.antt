@@ -17,14 +17,11 @@ use Rattle.model.specs.declared.Token.{Token}
 use Rattle.model.specs.Bytes.{two_bytes, value_bytes}
 use Rattle.model.specs.Values.{within}
 use Rattle.model.specs.Network.{Wire, Box, Proc, box, input, output, Net, Own, vars, taken, got, State, wire, capacity, proc, queue, own, vars_of, taken_of, got_of}
-use Rattle.model.specs.NetworkFile.{input_at}
 use Rattle.model.specs.States.{token_fits, tokens_fit, own_bytes}
 use Rattle.model.proofs.Tests.{both}
-use Rattle.model.proofs.Lookup.{input_proc}
 use Rattle.model.proofs.Decoded.{GoodWire, GoodProc, GoodNet, no_variable}
 use Rattle.model.proofs.Kept.{GoodVars, GoodOwn, GoodState, fit_append, fit-drop, within_small}
 use Rattle.table.specs.declared.Counts.{Counts}
-use Rattle.table.specs.Table.{index_in}
 use Rattle.octets.proofs.Laws.{length_two, back}
 use Rattle.queues.specs.Segments.{put_mid}
 use Rattle.queues.specs.Queues.{WireHeld, WireRoom, GotRoom, pop_bytes, push_bytes, got_bytes}

@@ -1,2 +1,3 @@
 -- What the contracts of the single moves cite beside the model.
 pub mod Moves
+pub mod Views
