@@ -11,7 +11,7 @@ use borrow.Author.Tests.{leb-true}
 use Rattle.model.specs.declared.Ty.{Ty}
 use Rattle.model.specs.declared.Token.{Token}
 use Rattle.model.specs.declared.Field.{Field}
-use Rattle.model.specs.declared.Field.TheVariants.{At, Cut}
+use Rattle.std.specs.Prelude.{Option, None, Some}
 use Rattle.model.specs.Bytes.{stretch}
 use Rattle.model.specs.Network.{Wire, Proc, box, Net, State, wire, proc, queue, own, no_wire, nobody}
 use Rattle.model.specs.NetworkFile.{Index, good, field_at, net_of, tabulate, box_at, input_at, output_at}
@@ -36,12 +36,12 @@ use Rattle.places.specs.Standing.{bare_net, tokens_of, net_in, Standing, state_o
 
 -- ── an accepted token file has few tokens ────────────────────────────────────────────────────
 
-field_few : (t : Ty) (s : List ℕ) (at : ℕ) (f : Field) (r : List Token × ℕ) → input_tokens t s at f ≡ good r → length r.0 ≤ length s
+field_few : (t : Ty) (s : List ℕ) (at : ℕ) (f : Option Field) (r : List Token × ℕ) → input_tokens t s at f ≡ good r → length r.0 ≤ length s
 unfolding input_tokens tokens_in stretch
-field_few t s at Cut r e = let z : ◌≡◌ {A = ℕ} 0 1 = cc in absurd (omega arith)
-field_few t s at (At tag start len) r e =
-    let b = take len (drop start s) in
-    let q = or_refuse_good (token_field t tag b) 5 at (good (tokens_in b, start + len)) r e in
+field_few t s at None r e = let z : ◌≡◌ {A = ℕ} 0 1 = cc in absurd (omega arith)
+field_few t s at (Some f) r e =
+    let b = take f.len (drop f.start s) in
+    let q = or_refuse_good (token_field t f.tag b) 5 at (good (tokens_in b, f.start + f.len)) r e in
     let g : tokens_in b ≡ r.0 = (let k = q.1 in cc) in
     let l : length b ≤ length s = rw (length-take, length-drop) (omega arith) in
     rw (← g) (omega (arith, l, length_read (length b / 5) b))
