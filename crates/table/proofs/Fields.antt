@@ -1,12 +1,11 @@
 -- What is wrong with a field after those of an index, by its tag. Assumes nothing.
 use Prim.Native.Nat.{ℕ, ◌-◌, ◌≤◌, ◌<◌}
-use mathlib.Core.Path.{◌≡◌, refl}
-use mathlib.Core.Bool.{Bool, true, false, cond, ◌&&◌}
+use mathlib.Core.Path.{◌≡◌}
+use mathlib.Core.Bool.{true}
 use mathlib.Core.List.{List}
-use lib.Dec.{ltb, leb, eqb}
+use lib.Dec.{ltb}
 use lib.ListN.{length}
-use borrow.Author.Tests.{le-leb, lt-leb, eq-eqb, ne_eqb, leb-true, eqb-true, eqb-false}
-use native.Mathlib.Omega.{arith}
+use borrow.Author.Tests.{le-leb, lt-leb, eq-eqb, ne_eqb}
 use Rattle.model.specs.Rules.{Shape, rule_read}
 use Rattle.model.specs.NetworkFile.{Index, fault_of, wire_form, wire_limits, wire_type_fits, box_form, box_limits, box_types, rule_in, rule_form, rule_limits, rule_types, input_form, output_form, output_limits, shape_at, in_order, field_fault}
 

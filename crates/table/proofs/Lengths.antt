@@ -13,7 +13,7 @@ use Rattle.model.specs.NetworkFile.{every, variable_start, box_form, box_limits,
 use Rattle.model.specs.Rules.{rule_read}
 use Rattle.model.proofs.Tests.{and₄, and₅}
 use Rattle.model.proofs.Accepted.{Added, wire, box, rule, input, output, BoxField, wire_count, box_count, rule_count, output_count}
-use Rattle.shapes.specs.Shapes.{BodyFits, BoxFits}
+use Rattle.shapes.specs.Shapes.{BoxFits}
 use Rattle.table.specs.declared.Counts.{Counts}
 use Rattle.table.specs.Table.{index_in, Within, Room}
 use Rattle.table.proofs.Regions.{region-length}

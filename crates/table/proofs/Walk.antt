@@ -1,16 +1,9 @@
 -- The walk over the fields, one turn at a time; and the one induction over it. Assumes nothing.
-use Prim.Native.Nat.{ℕ, zero, suc, ◌+◌, ◌-◌, ◌≤◌, ◌<◌}
-use mathlib.Core.Path.{◌≡◌, refl, ap, ◌∙◌, sym, subst}
-use mathlib.Core.Bool.{Bool, true, false, cond}
+use Prim.Native.Nat.{ℕ, zero, suc, ◌-◌, ◌<◌}
+use mathlib.Core.Path.{◌≡◌, refl, ap}
 use mathlib.Core.List.{List}
-use lib.Dec.{ltb, leb}
-use lib.ListN.{length, get_or}
-use borrow.Author.Tests.{ne_eqb, ltb-false}
 use native.Mathlib.Omega.{arith}
-use Rattle.model.specs.declared.Field.{Field}
-use Rattle.model.specs.declared.Field.TheVariants.{At, Cut}
-use Rattle.model.specs.Bytes.{two_at, stretch}
-use Rattle.model.specs.NetworkFile.{field_at, Index, no_fields, body_at, field_fault, add_field, Verdict, good, refuse, stop, go, onward, on_field, step, walk, fields}
+use Rattle.model.specs.NetworkFile.{Index, Verdict, stop, go, step, walk}
 
 -- one turn of the walk
 pub turn : (k : ℕ) (s : List ℕ) (x : Index) (at : ℕ) → 0 < k → walk k s (go x at) ≡ walk (k - 1) s (step s x at)

@@ -28,8 +28,7 @@ pub fn note(table: &mut [u16], c: Counts, tag: u8, at: usize) -> Counts
     n.last = tag;
     match tag {
         1 => {
-            let k = c.wires;
-            table[k] = v;
+            table[c.wires] = v;
             n.wires += 1;
         }
         2 => {
