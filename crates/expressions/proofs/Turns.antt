@@ -29,6 +29,9 @@ pub record Call : Type 0 where
   pub inside : at ≤ length s
   pub fits : fits_at depth (expression (drop at s)) ≡ true
 
+abbrev pub call : (s : List ℕ) (at depth : ℕ) {c k : ℕ} → c ≡ get_or s at 0 → k ≡ operands c → at ≤ length s → fits_at depth (expression (drop at s)) ≡ true → Call
+call s at depth {c} {k} e n l f = record { s = s; at = at; depth = depth; c = c; k = k; head = e; count = n; inside = l; fits = f }
+
 run_length : {s : List ℕ} {k at end : ℕ} {es : List Exp} → Run s k at es end → length es ≡ k
 run_length none = refl
 run_length (more x r) = ap suc (run_length r)

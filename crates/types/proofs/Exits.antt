@@ -6,23 +6,23 @@ use mathlib.Core.List.{List, [], ◌∷◌, ◌++◌, append_assoc}
 use Prim.Native.Nat.{ℕ, ◌+◌, ◌-◌, ◌≤◌, ◌<◌}
 use native.Mathlib.Omega.{arith}
 use lib.ListN.{drop, length}
+use Rattle.std.specs.Prelude.{Result, Ok, Err}
 use Rattle.model.specs.declared.Ty.{Ty}
 use Rattle.model.specs.Values.{is_bool, same_type}
 use Rattle.model.specs.Expressions.{Exp, Read, got, head_size, operands, type_at, build, expression, Scope, Typed, typed, ill, judged, two_type, type_of}
 use Rattle.expressions.specs.Reading.{fits_at}
 use Rattle.expressions.proofs.Parts.{sizes, sizes_append, size_is}
 use Rattle.expressions.proofs.Turns.{Call, deep, all, count_all, Reached, begin, next, counted, last}
-use Rattle.types.specs.declared.Typing.{Typing}
-use Rattle.types.specs.declared.Typing.TheVariants as typing
+use Rattle.types.specs.declared.Typed.{Typed as TypedTo}
 use Rattle.types.specs.Scopes.{placed, typed_at}
 use Rattle.types.proofs.Judging.{typed_there, Typeds, none, typeds_end, typeds_length, one_rule, type_one, type_two, type_if, next-ill, type_drop}
 
 -- an answer that is a fault: where
-ill_there : (m : ℕ) (sc : Scope) (at : ℕ) (r : Read Exp) {e : Exp} {n : ℕ} → r ≡ got e n → typed_at sc at r ≡ typing.Ill m → (k : ℕ) × ((type_of sc e ≡ ill k) × (at + k ≡ m))
+ill_there : (m : ℕ) (sc : Scope) (at : ℕ) (r : Read Exp) {e : Exp} {n : ℕ} → r ≡ got e n → typed_at sc at r ≡ Err m → (k : ℕ) × ((type_of sc e ≡ ill k) × (at + k ≡ m))
 unfolding typed_at placed
 ill_there m sc at r {e} {n} x y = go (type_of sc e) refl (rw x at y)
   where
-    go : (w : Typed) → type_of sc e ≡ w → placed at n w ≡ typing.Ill m → (k : ℕ) × ((type_of sc e ≡ ill k) × (at + k ≡ m))
+    go : (w : Typed) → type_of sc e ≡ w → placed at n w ≡ Err m → (k : ℕ) × ((type_of sc e ≡ ill k) × (at + k ≡ m))
     go (typed t) f z = absurd (let z : ◌≡◌ {A = ℕ} 0 1 = cc in omega arith)
     go (ill k) f z = (k, (f, cc))
 
@@ -37,7 +37,7 @@ pub unjudged : (sc : Scope) (x : Call) {h : ℕ} → h ≡ head_size x.c → Jud
 unfolding sizes
 unjudged sc x e = record { done = []; types = none; reached = begin x e; offset = omega arith }
 
-abbrev answer_at : Scope → Call → ℕ → Typing
+abbrev answer_at : Scope → Call → ℕ → Result TypedTo ℕ
 answer_at sc x at = typed_at sc at (expression (drop at x.s))
 
 -- the answer of the whole from the type of what is built
@@ -51,9 +51,9 @@ module _ {sc : Scope} {x : Call} {ts : List Ty} {k at : ℕ} (j : Judged sc x ts
   asked l e = let y = next j.reached l in (omega (arith, e, deep x), (y.inside, y.fits))
 
   -- the next operand has a type
-  pub onward : {t : Ty} {m : ℕ} → 0 < k → answer_at sc x at ≡ typing.Typed t m → Judged sc x (ts ++ (t ∷ [])) (k - 1) m
+  pub onward : {t : TypedTo} → 0 < k → answer_at sc x at ≡ Ok t → Judged sc x (ts ++ (t.ty ∷ [])) (k - 1) t.next
   unfolding sizes
-  onward {t} {m} l a =
+  onward {t} l a =
       let y = next j.reached l in
       let w = typed_there sc at (expression (drop at x.s)) y.read a in
       record {
@@ -64,7 +64,7 @@ module _ {sc : Scope} {x : Call} {ts : List Ty} {k at : ℕ} (j : Judged sc x ts
       }
 
   -- the next operand fails
-  pub exit_ill : (q : ℕ) → 0 < k → answer_at sc x at ≡ typing.Ill q → answer_at sc x x.at ≡ typing.Ill q
+  pub exit_ill : (q : ℕ) → 0 < k → answer_at sc x at ≡ Err q → answer_at sc x x.at ≡ Err q
   unfolding placed
   exit_ill q l a =
       let y = next j.reached l in
@@ -73,7 +73,7 @@ module _ {sc : Scope} {x : Call} {ts : List Ty} {k at : ℕ} (j : Judged sc x ts
       let t : (all x).es ≡ j.done ++ (y.e ∷ r) = y.onward.these ∙ append_assoc j.done (y.e ∷ []) r in
       let n : length (j.done ++ (y.e ∷ r)) ≡ operands x.c = sym (ap length t) ∙ count_all x in
       let w : x.at + (head_size x.c + sizes j.done + z.0) ≡ q = omega (arith, j.offset, z.1.1) in
-      answer sc x (j.done ++ (y.e ∷ r)) t (next-ill sc x j.types y.e r n z.1.0) ∙ ap typing.Ill w
+      answer sc x (j.done ++ (y.e ∷ r)) t (next-ill sc x j.types y.e r n z.1.0) ∙ ap Err w
 
   -- no operand is left
   ended : {y : Typed} → length ts ≡ x.k → type_of sc (build (drop x.at x.s) j.done) ≡ y → (x.at ≤ at) × (answer_at sc x x.at ≡ placed x.at (at - x.at) y)

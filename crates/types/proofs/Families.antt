@@ -5,10 +5,11 @@ use mathlib.Core.Bool.{Bool, cond, ◌&&◌}
 use Prim.Native.Nat.{ℕ, ◌-◌, ◌≤◌}
 use native.Mathlib.Omega.{arith}
 use borrow.Author.Tests.{le-leb, lt-leb, eq-eqb, ne_eqb}
+use Rattle.std.specs.Prelude.{Result, Ok, Err}
 use Rattle.model.specs.declared.Ty.{Ty}
 use Rattle.model.specs.Values.{is_bool, is_number, same_type, bool}
 use Rattle.model.specs.Expressions.{Typed, judged, one_type, two_type, count_type}
-use Rattle.types.specs.declared.Typing.TheVariants as typing
+use Rattle.types.specs.declared.Typed.{Typed as TypedTo}
 use Rattle.types.specs.Scopes.{placed}
 use Rattle.types.proofs.Judging.{judged_is, one_rule}
 
@@ -16,7 +17,7 @@ pub and_same : {a b x y : Bool} → a ≡ x → b ≡ y → (a && b) ≡ (x && y
 and_same e f = cc
 
 -- a rule that holds if p does, judged by b
-pub judged_by : {at next : ℕ} {b p : Bool} {y : Typed} (t : Ty) → at ≤ next → y ≡ judged p t → b ≡ p → cond b (typing.Typed t next) (typing.Ill at) ≡ placed at (next - at) y
+pub judged_by : {at next : ℕ} {b p : Bool} {y : Typed} (t : Ty) → at ≤ next → y ≡ judged p t → b ≡ p → cond b (Ok (record { ty = t; next = next })) (Err at) ≡ placed at (next - at) y
 judged_by {at} {next} {b} t l e q = judged_is b t at next l ∙ ap (placed at (next - at)) (rw q (sym e))
 
 module _ (c : ℕ) (t u : Ty) where

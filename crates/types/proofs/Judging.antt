@@ -9,6 +9,7 @@ use lib.Dec.{eqb}
 use lib.ListN.{get_or, drop, length, length-append}
 use lib.Seq.{get_or-drop}
 use borrow.Author.Tests.{lt-leb, eqb-true, eqb-false, ne_eqb}
+use Rattle.std.specs.Prelude.{Result, Ok, Err}
 use Rattle.model.specs.declared.Ty.{Ty}
 use Rattle.model.specs.Values.{is_bool, is_number, same_type}
 use Rattle.model.specs.Expressions.{Exp, Read, got, head_size, operands, type_at, build, Scope, Typed, typed, ill, judged, operand_at, one_type, two_type, type_of, size_of}
@@ -16,23 +17,23 @@ use Rattle.expressions.proofs.Depths.{four_up}
 use Rattle.expressions.proofs.Shapes.{one_operand, two_operands, three_operands, at_most_three, build-cast, build_one, build_two, build-if}
 use Rattle.expressions.proofs.Parts.{sizes}
 use Rattle.expressions.proofs.Turns.{Call, there}
-use Rattle.types.specs.declared.Typing.TheVariants as typing
+use Rattle.types.specs.declared.Typed.{Typed as TypedTo}
 use Rattle.types.specs.Scopes.{placed, typed_at}
 
 -- ── answers ──────────────────────────────────────────────────────────────────────────────────
 
-pub judged_is : (b : Bool) (t : Ty) (at next : ℕ) → at ≤ next → cond b (typing.Typed t next) (typing.Ill at) ≡ placed at (next - at) (judged b t)
+pub judged_is : (b : Bool) (t : Ty) (at next : ℕ) → at ≤ next → cond b (Ok (record { ty = t; next = next })) (Err at) ≡ placed at (next - at) (judged b t)
 unfolding placed judged
-judged_is true t at next l = let q : next ≡ at + (next - at) = omega arith in ap (typing.Typed t) q
-judged_is false t at next l = let q : at ≡ at + 0 = omega arith in ap typing.Ill q
+judged_is true t at next l = let q : next ≡ at + (next - at) = omega arith in ap (λ (n : ℕ). Ok (record { ty = t; next = n })) q
+judged_is false t at next l = let q : at ≡ at + 0 = omega arith in ap Err q
 
-placed_typed : {t : Ty} {m : ℕ} (at n : ℕ) (x : Typed) → placed at n x ≡ typing.Typed t m → (x ≡ typed t) × (at + n ≡ m)
+placed_typed : {t : TypedTo} (at n : ℕ) (x : Typed) → placed at n x ≡ Ok t → (x ≡ typed t.ty) × (at + n ≡ t.next)
 unfolding placed
 placed_typed at n (typed u) e = (cc, cc)
-placed_typed at n (ill k) e = absurd (let z : ◌≡◌ {A = ℕ} 0 1 = cc in omega arith)
+placed_typed at n (ill k) e = (cc, cc)
 
 -- what an answer at an offset says of the expression there
-pub typed_there : {t : Ty} {m : ℕ} (sc : Scope) (at : ℕ) (r : Read Exp) {e : Exp} {n : ℕ} → r ≡ got e n → typed_at sc at r ≡ typing.Typed t m → (type_of sc e ≡ typed t) × (at + n ≡ m)
+pub typed_there : {t : TypedTo} (sc : Scope) (at : ℕ) (r : Read Exp) {e : Exp} {n : ℕ} → r ≡ got e n → typed_at sc at r ≡ Ok t → (type_of sc e ≡ typed t.ty) × (at + n ≡ t.next)
 unfolding typed_at
 typed_there sc at r {e} {n} x y = placed_typed at n (type_of sc e) (rw x at y)
 

@@ -10,6 +10,7 @@ use lib.IntN.{ℤ}
 use lib.ListN.{get_or, drop}
 use lib.Seq.{get_or-drop}
 use borrow.Author.Tests.{le-ltb}
+use Rattle.std.specs.Prelude.{Result, Ok, Err}
 use Rattle.model.specs.declared.Ty.{Ty}
 use Rattle.model.specs.Bytes.{value_at, four_at}
 use Rattle.model.specs.Values.{is_plain, within, no_type}
@@ -17,8 +18,7 @@ use Rattle.model.specs.Expressions.{Exp, Read, bad, got, head_size, type_at, bui
 use Rattle.expressions.specs.Reading.{shallow, fits_at, limits_read}
 use Rattle.expressions.proofs.Leaves.{Leaf, leaf_there, leaf_read, leaf_two}
 use Rattle.expressions.proofs.Shapes.{build-literal, build-matched, build-variable}
-use Rattle.types.specs.declared.Typing.{Typing}
-use Rattle.types.specs.declared.Typing.TheVariants as typing
+use Rattle.types.specs.declared.Typed.{Typed as TypedTo}
 use Rattle.types.specs.Scopes.{scope_in, placed, typed_at}
 use Rattle.types.proofs.Judging.{judged_is, type_drop}
 
@@ -55,11 +55,11 @@ named_in ts from i = cond (ltb i 4) (type_at ts (from + 2 * i)) no_type
 -- ── a leaf ───────────────────────────────────────────────────────────────────────────────────
 
 module _ (x : Leaf) where
-  abbrev type_there : Scope → Typing
+  abbrev type_there : Scope → Result TypedTo ℕ
   type_there sc = typed_at sc x.at (expression (drop x.at x.s))
 
-  abbrev answer : Bool → Ty → ℕ → Typing
-  answer b t n = cond b (typing.Typed t (x.at + n)) (typing.Ill x.at)
+  abbrev answer : Bool → Ty → ℕ → Result TypedTo ℕ
+  answer b t n = cond b (Ok (record { ty = t; next = x.at + n })) (Err x.at)
 
   leaf_answer : (sc : Scope) (b : Bool) (t : Ty) (n : ℕ) → type_of sc (build (drop x.at x.s) []) ≡ judged b t → head_size x.c ≡ n → answer b t n ≡ type_there sc
   unfolding typed_at

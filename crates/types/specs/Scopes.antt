@@ -1,20 +1,19 @@
 -- The table of types that an expression may name, and what the type check answers.
 -- Assumes nothing.
-use Rattle.std.specs.Prelude.{ℕ, ◌+◌, ◌*◌, Bool, true, false, cond, List, [], ◌∷◌}
+use Rattle.std.specs.Prelude.{ℕ, ◌+◌, ◌*◌, Bool, List, [], ◌∷◌, Result, Ok, Err}
 use Rattle.model.specs.declared.Ty.{Ty}
 use Rattle.model.specs.Expressions.{Exp, Read, bad, got, type_at, Scope, Typed, typed, ill, type_of}
-use Rattle.types.specs.declared.Typing.{Typing}
-use Rattle.types.specs.declared.Typing.TheVariants as typing
+use Rattle.types.specs.declared.Typed.{Typed as TypedTo}
 
 -- kind and p of input i at 2i, of variable j at 8 + 2j
 unfoldable pub scope_in : List ℕ → Scope
 scope_in ts = record { ins = type_at ts 0 ∷ type_at ts 2 ∷ type_at ts 4 ∷ type_at ts 6 ∷ []; vars = type_at ts 8 ∷ type_at ts 10 ∷ type_at ts 12 ∷ type_at ts 14 ∷ [] }
 
 -- the type of an expression of n bytes at an offset, with the offset after it; or the offset of what fails
-unfoldable pub placed : ℕ → ℕ → Typed → Typing
-placed at n (typed t) = typing.Typed t (at + n)
-placed at n (ill k) = typing.Ill (at + k)
+unfoldable pub placed : ℕ → ℕ → Typed → Result TypedTo ℕ
+placed at n (typed t) = Ok (record { ty = t; next = at + n })
+placed at n (ill k) = Err (at + k)
 
-unfoldable pub typed_at : Scope → ℕ → Read Exp → Typing
-typed_at sc at bad = typing.Ill at
+unfoldable pub typed_at : Scope → ℕ → Read Exp → Result TypedTo ℕ
+typed_at sc at bad = Err at
 typed_at sc at (got e n) = placed at n (type_of sc e)

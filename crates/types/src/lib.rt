@@ -1,7 +1,7 @@
 #![tactic(auto)]
 
 // The type of an expression, worked out from its operands.
-ghost use Rattle.std.specs.Prelude.{◌≡◌, true, cond, ◌&&◌, ◌+◌, ◌-◌, ◌*◌, ◌≤◌, eqb, ltb, length, get_or, drop};
+ghost use Rattle.std.specs.Prelude.{◌≡◌, true, Ok, Err, cond, ◌&&◌, ◌+◌, ◌-◌, ◌*◌, ◌≤◌, eqb, ltb, length, get_or, drop};
 ghost use Rattle.model.specs.Values.{is_bool, is_number, same_type, no_type};
 ghost use Rattle.model.specs.Expressions.{expression, judged, one_type, two_type, operands, head_fits, type_at};
 ghost use Rattle.expressions.specs.Reading.{precise_head, fits_at, limits_read};
@@ -9,21 +9,18 @@ ghost use Rattle.types.specs.Scopes.{scope_in, placed, typed_at};
 
 use model::Ty;
 
-// A type and the offset after the expression, or the offset of what fails.
+// The type of an expression and the offset after it. Where none is found, the offset of what fails stands in its place.
 #[derive(Clone, Copy)]
-pub enum Typing {
-    Typed { ty: Ty, next: usize },
-    Ill { at: usize },
+pub struct Typed {
+    pub ty: Ty,
+    pub next: usize,
 }
 
 // The type, if the rule holds.
-fn judge(ok: bool, t: Ty, at: usize, next: usize) -> Typing
-    ensures { result ≡ cond ok (Typing.Typed t next) (Typing.Ill at) }
+fn judge(ok: bool, t: Ty, at: usize, next: usize) -> Result<Typed, usize>
+    ensures { result ≡ cond ok (Ok (record { ty = t; next = next })) (Err at) }
 {
-    if ok {
-        return Typing::Typed { ty: t, next };
-    }
-    Typing::Ill { at }
+    if ok { Ok(Typed { ty: t, next }) } else { Err(at) }
 }
 
 // The type that entry i of the inputs (from 0) or of the variables (from 8) has; none from 4 on.
@@ -33,13 +30,13 @@ pub fn named(types: &[u8; 16], from: usize, i: u8) -> Ty
 {
     if i < 4 {
         let ts: &[u8] = types;
-        return expressions::type_at(ts, from + 2 * octets::wide(i));
+        return expressions::type_at(ts, from + 2 * usize::from(i));
     }
     Ty { kind: 255, p: 0 }
 }
 
 // A literal fits its type; a matched value and a variable have the type of the table.
-fn leaf_type(s: &[u8], at: usize, types: &[u8; 16]) -> Typing
+fn leaf_type(s: &[u8], at: usize, types: &[u8; 16]) -> Result<Typed, usize>
     requires at_in_bounds { at ≤ length s.now }
     requires s_value { head_fits (drop at s.now) ≡ true }
     requires s_value_2 { precise_head (drop at s.now) ≡ true }
@@ -64,7 +61,7 @@ fn leaf_type(s: &[u8], at: usize, types: &[u8; 16]) -> Typing
 }
 
 // A cast is of numbers, not takes a bool, lnot a number.
-fn one_type(c: u8, named: Ty, t: Ty, at: usize, next: usize) -> Typing
+fn one_type(c: u8, named: Ty, t: Ty, at: usize, next: usize) -> Result<Typed, usize>
     requires { at ≤ next }
     ensures { result ≡ placed at (next - at) (cond (eqb c 3) (judged (is_number named && is_number t) named) (one_type c t)) }
 {
@@ -79,7 +76,7 @@ fn one_type(c: u8, named: Ty, t: Ty, at: usize, next: usize) -> Typing
 }
 
 // The rule of a two-operand operator: the code chooses the family.
-fn two_type(c: u8, t: Ty, u: Ty, at: usize, next: usize) -> Typing
+fn two_type(c: u8, t: Ty, u: Ty, at: usize, next: usize) -> Result<Typed, usize>
     requires { at ≤ next }
     ensures { result ≡ placed at (next - at) (two_type c t u) }
 {
@@ -104,7 +101,7 @@ fn two_type(c: u8, t: Ty, u: Ty, at: usize, next: usize) -> Typing
 }
 
 // A bool, and two branches of one type.
-fn if_type(b: Ty, t: Ty, u: Ty, at: usize, next: usize) -> Typing
+fn if_type(b: Ty, t: Ty, u: Ty, at: usize, next: usize) -> Result<Typed, usize>
     requires { at ≤ next }
     ensures { result ≡ placed at (next - at) (judged (is_bool b && same_type t u) t) }
 {
@@ -113,7 +110,7 @@ fn if_type(b: Ty, t: Ty, u: Ty, at: usize, next: usize) -> Typing
 }
 
 // The type of the expression at an offset, of a depth that is at most `depth`.
-fn type_at(s: &[u8], at: usize, depth: usize, types: &[u8; 16]) -> Typing
+fn type_at(s: &[u8], at: usize, depth: usize, types: &[u8; 16]) -> Result<Typed, usize>
     requires at_in_bounds { at ≤ length s.now }
     requires s_value { fits_at depth (expression (drop at s.now)) ≡ true }
     ensures { result ≡ typed_at (scope_in types.now) at (expression (drop at s.now)) }
@@ -124,29 +121,20 @@ fn type_at(s: &[u8], at: usize, depth: usize, types: &[u8; 16]) -> Typing
         return leaf_type(s, at, types);
     }
     let here = at + expressions::head_size(c);
-    let a = type_at(s, here, depth - 1, types);
-    let Typing::Typed { ty: t, next: n } = a else {
-        return a;
-    };
+    let a = type_at(s, here, depth - 1, types)?;
     if k == 1 {
-        return one_type(c, expressions::type_at(s, at + 1), t, at, n);
+        return one_type(c, expressions::type_at(s, at + 1), a.ty, at, a.next);
     }
-    let b = type_at(s, n, depth - 1, types);
-    let Typing::Typed { ty: u, next: m } = b else {
-        return b;
-    };
+    let b = type_at(s, a.next, depth - 1, types)?;
     if k == 2 {
-        return two_type(c, t, u, at, m);
+        return two_type(c, a.ty, b.ty, at, b.next);
     }
-    let d = type_at(s, m, depth - 1, types);
-    let Typing::Typed { ty: w, next: l } = d else {
-        return d;
-    };
-    if_type(t, u, w, at, l)
+    let d = type_at(s, b.next, depth - 1, types)?;
+    if_type(a.ty, b.ty, d.ty, at, d.next)
 }
 
 // The type of an expression that keeps the limits.
-pub fn type_of(s: &[u8], types: &[u8; 16]) -> Typing
+pub fn type_of(s: &[u8], types: &[u8; 16]) -> Result<Typed, usize>
     requires { limits_read (expression s.now) ≡ true }
     ensures { result ≡ typed_at (scope_in types.now) 0 (expression s.now) }
 {
