@@ -10,7 +10,7 @@ ghost use Rattle.rules.specs.Bodies.{pattern_codes, action_codes, any_code, patt
 use shapes::Arity;
 
 // Where a rule's variable patterns, its guard, its output actions and its variable actions begin.
-#[derive(Clone, Copy)]
+#[derive(Clone, Copy, PartialEq, Eq, Debug)]
 pub struct Parts {
     pub vars: usize,
     pub guard: usize,

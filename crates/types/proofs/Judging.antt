@@ -9,7 +9,7 @@ use lib.Dec.{eqb}
 use lib.ListN.{get_or, drop, length, length-append}
 use lib.Seq.{get_or-drop}
 use borrow.Author.Tests.{lt-leb, eqb-true, eqb-false, ne_eqb}
-use Rattle.std.specs.Prelude.{Result, Ok, Err}
+use Rattle.std.specs.Prelude.{Ok, Err}
 use Rattle.model.specs.declared.Ty.{Ty}
 use Rattle.model.specs.Values.{is_bool, is_number, same_type}
 use Rattle.model.specs.Expressions.{Exp, Read, got, head_size, operands, type_at, build, Scope, Typed, typed, ill, judged, operand_at, one_type, two_type, type_of, size_of}

@@ -14,7 +14,7 @@ use Rattle.std.specs.Prelude.{Result, Ok, Err}
 use Rattle.model.specs.declared.Ty.{Ty}
 use Rattle.model.specs.Bytes.{value_at, four_at}
 use Rattle.model.specs.Values.{is_plain, within, no_type}
-use Rattle.model.specs.Expressions.{Exp, Read, bad, got, head_size, type_at, build, expression, Scope, Typed, judged, type_of, expression_limits}
+use Rattle.model.specs.Expressions.{Exp, Read, bad, got, head_size, type_at, build, expression, Scope, judged, type_of, expression_limits}
 use Rattle.expressions.specs.Reading.{shallow, fits_at, limits_read}
 use Rattle.expressions.proofs.Leaves.{Leaf, leaf_there, leaf_read, leaf_two}
 use Rattle.expressions.proofs.Shapes.{build-literal, build-matched, build-variable}

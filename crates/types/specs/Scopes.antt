@@ -1,7 +1,6 @@
 -- The table of types that an expression may name, and what the type check answers.
 -- Assumes nothing.
-use Rattle.std.specs.Prelude.{ℕ, ◌+◌, ◌*◌, Bool, List, [], ◌∷◌, Result, Ok, Err}
-use Rattle.model.specs.declared.Ty.{Ty}
+use Rattle.std.specs.Prelude.{ℕ, ◌+◌, List, [], ◌∷◌, Result, Ok, Err}
 use Rattle.model.specs.Expressions.{Exp, Read, bad, got, type_at, Scope, Typed, typed, ill, type_of}
 use Rattle.types.specs.declared.Typed.{Typed as TypedTo}
 

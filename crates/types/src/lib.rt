@@ -10,7 +10,7 @@ ghost use Rattle.types.specs.Scopes.{scope_in, placed, typed_at};
 use model::Ty;
 
 // The type of an expression and the offset after it. Where none is found, the offset of what fails stands in its place.
-#[derive(Clone, Copy)]
+#[derive(Clone, Copy, PartialEq, Eq, Debug)]
 pub struct Typed {
     pub ty: Ty,
     pub next: usize,
@@ -20,7 +20,11 @@ pub struct Typed {
 fn judge(ok: bool, t: Ty, at: usize, next: usize) -> Result<Typed, usize>
     ensures { result ≡ cond ok (Ok (record { ty = t; next = next })) (Err at) }
 {
-    if ok { Ok(Typed { ty: t, next }) } else { Err(at) }
+    if ok {
+        Ok(Typed { ty: t, next })
+    } else {
+        Err(at)
+    }
 }
 
 // The type that entry i of the inputs (from 0) or of the variables (from 8) has; none from 4 on.
