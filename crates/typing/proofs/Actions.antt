@@ -3,27 +3,27 @@
 use mathlib.Core.Path.{◌≡◌, refl, sym, ap, ◌∙◌}
 use mathlib.Core.Bool.{Bool, true, false, cond, ◌&&◌}
 use mathlib.Core.List.{List}
-use Prim.Native.Nat.{ℕ, ◌+◌, ◌-◌, ◌*◌, ◌≤◌, ◌<◌}
+use Prim.Native.Nat.{ℕ, zero, suc, ◌+◌, ◌-◌, ◌*◌, ◌≤◌, ◌<◌}
 use native.Mathlib.Omega.{arith}
 use lib.Dec.{ltb, eqb}
 use lib.ListN.{get_or, drop, length}
 use lib.Seq.{drop-drop}
-use borrow.Author.Tests.{ltb-true, ltb-false, ne_eqb}
+use borrow.Author.Tests.{lt-leb, ltb-true, ltb-false, ne_eqb}
 use Rattle.model.specs.declared.Ty.{Ty}
 use Rattle.model.specs.Expressions.{Exp, Read, bad, got, after, read_many, provided, expression, size_of, type_at, Scope}
 use Rattle.model.specs.NetworkFile.{tabulate}
-use Rattle.model.specs.Rules.{Action, nothing, bare, send, bare_action, sent_tag, holds_expression, read_action, Fit, fits, fails, also, fit_if, tag_fits, action_fits, size_of_action, actions_fit}
-use Rattle.expressions.specs.declared.Form.TheVariants.{Bytes, Malformed}
-use Rattle.expressions.specs.Reading.{limits_read, end_from, is_read}
+use Rattle.model.specs.Rules.{Action, nothing, bare, send, bare_action, sent_tag, holds_expression, read_action, output_action, variable_action, Fit, fits, fails, also, fit_if, tag_fits, action_fits, size_of_action, actions_fit}
+use Rattle.model.proofs.Tests.{and_right}
+use Rattle.expressions.specs.Reading.{limits_read, end_from, is_read, skip_to}
 use Rattle.expressions.proofs.Heads.{head_at}
 use Rattle.expressions.proofs.Parts.{size_is}
 use Rattle.shapes.specs.Shapes.{types_in}
-use Rattle.rules.specs.Bodies.{action_codes, actions_from, sent_limits, limits_of}
-use Rattle.rules.proofs.Ends.{action_none}
+use Rattle.rules.specs.Bodies.{action_codes, any_code, actions_from, sent_limits, limits_of}
+use Rattle.rules.proofs.Ends.{action_none, action_there, action_skip, action_inside as inside}
 use Rattle.rules.proofs.Keeping.{keeps_read, keeps_is, limits_step, limits_fail}
-use Rattle.typing.specs.declared.Fitting.TheVariants.{Fits, Fails}
+use Rattle.std.specs.Prelude.{Ok, Err, Some, None}
 use Rattle.typing.specs.Fits.{fitting_of, list_read, exp_read, action_at}
-use Rattle.typing.proofs.Peeling.{types_from, types_all, types_more, Peel, peel}
+use Rattle.typing.proofs.Peeling.{types_from, types_all, types_more, Peel, peel, first_read, wider, is_provided}
 use Rattle.typing.proofs.Patterns.{minus_zero}
 
 -- ── by its code ──────────────────────────────────────────────────────────────────────────────
@@ -32,7 +32,7 @@ module _ (sc : Scope) (b : List ℕ) (at : ℕ) (t : Ty) (c : ℕ) (h : c ≡ ge
   code_at : get_or (drop at b) 0 0 ≡ c
   code_at = head_at at b ∙ sym h
 
-  pub act_none : c ≡ 0 → Fits ≡ fitting_of (action_fits sc at t (action_at (drop at b)))
+  pub act_none : c ≡ 0 → Ok tt ≡ fitting_of (action_fits sc at t (action_at (drop at b)))
   unfolding action_at holds_expression bare_action action_fits fitting_of
   act_none e = rw (code_at, e)
 
@@ -100,12 +100,12 @@ pub action_read : (known : ℕ → Bool) (s : List ℕ) {x : Action} {n : ℕ} �
 unfolding read_action
 action_read known s e = read_by (holds_expression (get_or s 0 0)) s refl (given (ltb 0 (length s) && known (get_or s 0 0)) _ e)
 
-pub action_inside : (v : Bool) (b : List ℕ) (at end : ℕ) → end_from at (read_action (action_codes v) (drop at b)) ≡ Bytes end → at < length b
+pub action_inside : (v : Bool) (b : List ℕ) (at end : ℕ) → end_from at (read_action (action_codes v) (drop at b)) ≡ Some end → at < length b
 action_inside v b at end e = go (ltb at (length b)) refl
   where
     go : (t : Bool) → ltb at (length b) ≡ t → at < length b
     go true q = ltb-true at (length b) q
-    go false q = let w : Malformed ≡ Bytes end = action_none (action_codes v) b at (ltb-false at (length b) q) ∙ e in let z : ◌≡◌ {A = ℕ} 0 1 = cc in absurd (omega arith)
+    go false q = let w : None ≡ Some end = action_none (action_codes v) b at (ltb-false at (length b) q) ∙ e in let z : ◌≡◌ {A = ℕ} 0 1 = cc in absurd (omega arith)
 
 -- ── one after another ────────────────────────────────────────────────────────────────────────
 
@@ -114,8 +114,41 @@ unfolding limits_of is_read
 limits_read_lem bad e = e
 limits_read_lem (got xs n) e = refl
 
+-- what can be a variable's can be an output's
+variable_output : (c : ℕ) → action_codes true c ≡ true → action_codes false c ≡ true
+unfolding action_codes variable_action output_action
+variable_output zero e = refl
+variable_output (suc zero) e = refl
+variable_output (suc (suc c)) e = let u : false ≡ true = rw (lt-leb (suc (suc c)) 1 (omega arith)) at e in let z : ◌≡◌ {A = ℕ} 0 1 = cc in absurd (omega arith)
+
+action_wider : (s : List ℕ) → is_read (read_action (action_codes true) s) ≡ true → read_action (action_codes false) s ≡ read_action (action_codes true) s
+unfolding read_action
+action_wider s e =
+    let c = get_or s 0 0 in
+    let k = and_right (ltb 0 (length s)) (action_codes true c) (is_provided _ _ e) in
+    rw (k, variable_output c k)
+
+pub outputs_too : (n at : ℕ) (b : List ℕ) → is_read (actions_from true n at b) ≡ true → actions_from false n at b ≡ actions_from true n at b
+unfolding actions_from
+outputs_too n at b e = wider (read_action (action_codes true)) (read_action (action_codes false)) action_wider n (drop at b) e
+
+-- the first of those that are there, and where it ends
+module _ (v : Bool) (b : List ℕ) (k at : ℕ) (h : 0 < k) (r : is_read (actions_from v k at b) ≡ true) where
+  first : is_read (read_action (action_codes v) (drop at b)) ≡ true
+  unfolding actions_from
+  first = first_read (read_action (action_codes v)) b k at h r
+
+  pub action_first : is_read (read_action any_code (drop at b)) ≡ true
+  action_first = action_there (action_codes v) b at first
+
+  pub action_within : at < length b
+  action_within = inside b at (get_or b at 0) action_first refl
+
+  pub action_next : (end : ℕ) → end ≡ skip_to at (read_action any_code (drop at b)) → end_from at (read_action (action_codes v) (drop at b)) ≡ Some end
+  action_next = action_skip (action_codes v) b at first
+
 module _ (v : Bool) (b : List ℕ) where
-  module _ (k at end : ℕ) (h : 0 < k) (l : limits_of (actions_from v k at b) ≡ true) (g : end_from at (read_action (action_codes v) (drop at b)) ≡ Bytes end) where
+  module _ (k at end : ℕ) (h : 0 < k) (l : limits_of (actions_from v k at b) ≡ true) (g : end_from at (read_action (action_codes v) (drop at b)) ≡ Some end) where
     first_go : (t : Bool) → keeps_read (read_action (action_codes v) (drop at b)) ≡ t → (sent_limits (drop at b) ≡ true) × (limits_of (actions_from v (k - 1) end b) ≡ true)
     unfolding actions_from
     first_go true e = (sym (keeps_is (action_codes v) (drop at b) at end g) ∙ e, sym (limits_step (read_action (action_codes v)) b k at end h g e) ∙ l)
@@ -147,25 +180,25 @@ module _ (v : Bool) (b : List ℕ) where
         let g : at + size_of_action x.first.thing ≡ end = ap (λ (j : ℕ). at + j) w.1 ∙ sym x.first.ends in
         rw (x.list, types_more types k n h) (rw (g, w.0, q))
 
-    module _ (k at end : ℕ) (t : Ty) (h : k < n) (l : limits_of (actions_from v (n - k) at b) ≡ true) (g : end_from at (read_action (action_codes v) (drop at b)) ≡ Bytes end) (q : t ≡ type_at types (2 * k)) where
+    module _ (k at end : ℕ) (t : Ty) (h : k < n) (l : limits_of (actions_from v (n - k) at b) ≡ true) (g : end_from at (read_action (action_codes v) (drop at b)) ≡ Some end) (q : t ≡ type_at types (2 * k)) where
       acts_one : left_acts k at ≡ also (action_fits sc at t (action_at (drop at b))) (left_acts (k + 1) end)
       unfolding actions_from
       acts_one = acts_peeled k at end h (peel (read_action (action_codes v)) b (n - k) at end (omega arith) (limits_read_lem (read_many (read_action (action_codes v)) (n - k) (drop at b)) l) g) ∙ rw q
 
-      fail_go : (f : Fit) (j : ℕ) → Fails j ≡ fitting_of f → (y : Fit) → Fails j ≡ fitting_of (also f y)
+      fail_go : (f : Fit) (j : ℕ) → Err j ≡ fitting_of f → (y : Fit) → Err j ≡ fitting_of (also f y)
       unfolding fitting_of also
       fail_go fits j e y = let z : ◌≡◌ {A = ℕ} 0 1 = cc in absurd (omega arith)
       fail_go (fails i) j e y = e
 
-      pub acts_fail : (j : ℕ) {w : Fit} → Fails j ≡ fitting_of (action_fits sc at t (action_at (drop at b))) → left_acts k at ≡ w → Fails j ≡ fitting_of w
+      pub acts_fail : (j : ℕ) {w : Fit} → Err j ≡ fitting_of (action_fits sc at t (action_at (drop at b))) → left_acts k at ≡ w → Err j ≡ fitting_of w
       acts_fail j e i = fail_go (action_fits sc at t (action_at (drop at b))) j e (left_acts (k + 1) end) ∙ ap fitting_of (sym acts_one ∙ i)
 
-      more_go : (f : Fit) → Fits ≡ fitting_of f → (y : Fit) → also f y ≡ y
+      more_go : (f : Fit) → Ok tt ≡ fitting_of f → (y : Fit) → also f y ≡ y
       unfolding fitting_of also
       more_go fits e y = refl
       more_go (fails i) e y = let z : ◌≡◌ {A = ℕ} 0 1 = cc in absurd (omega arith)
 
-      pub acts_more : {w : Fit} → Fits ≡ fitting_of (action_fits sc at t (action_at (drop at b))) → left_acts k at ≡ w → left_acts (k + 1) end ≡ w
+      pub acts_more : {w : Fit} → Ok tt ≡ fitting_of (action_fits sc at t (action_at (drop at b))) → left_acts k at ≡ w → left_acts (k + 1) end ≡ w
       acts_more e i = sym (more_go (action_fits sc at t (action_at (drop at b))) e (left_acts (k + 1) end)) ∙ sym acts_one ∙ i
 
       pub acts_limits : limits_of (actions_from v (n - (k + 1)) end b) ≡ true

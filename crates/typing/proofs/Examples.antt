@@ -1,15 +1,16 @@
--- The rule of INC, and what is wrong with it after one change: number and offset, computed on bytes.
+-- The rule of INC, and what is wrong with it after one change: reason and offset, computed on bytes.
 -- Assumes nothing.
 use Prim.Native.Nat.{ℕ}
 use mathlib.Core.Path.{◌≡◌, refl}
 use mathlib.Core.List.{List, [], ◌∷◌, ◌++◌}
 use Rattle.model.specs.Opened.{opened}
 use Rattle.model.specs.Rules.{Shape}
+use Rattle.model.specs.declared.Reason.TheVariants.{Form, Limits, Types}
 use Rattle.expressions.specs.Reading.{end_from}
 use Rattle.rules.specs.Bodies.{pattern_codes, action_codes, part_end, stop_or, read_from, read_to}
-use Rattle.typing.specs.declared.RuleFault.TheVariants.{Sound, Faulty}
+use Rattle.std.specs.Prelude.{Ok}
 use Rattle.typing.specs.Limits.{action_keeps, actions_keep, rule_keeps}
-use Rattle.typing.specs.RuleFault.{arity_of, form_fits, first_of, rule_fault}
+use Rattle.typing.specs.RuleFault.{refused, arity_of, form_fits, first_of, rule_fault}
 
 -- a box that reads a signed 8 and writes a signed number of precision p
 unfoldable pub box : ℕ → Shape
@@ -31,6 +32,6 @@ pub faults : (
     ∷ rule_fault (box 8) 0 (body 1 2 8)
     ∷ rule_fault (box 9) 0 (body 1 1 8)
     ∷ []
-    ) ≡ Sound ∷ Faulty 1 19 ∷ Faulty 1 8 ∷ Faulty 2 0 ∷ Faulty 2 9 ∷ Faulty 4 10 ∷ Faulty 4 9 ∷ Faulty 4 8 ∷ []
+    ) ≡ Ok tt ∷ refused Form 19 ∷ refused Form 8 ∷ refused Limits 0 ∷ refused Limits 9 ∷ refused Types 10 ∷ refused Types 9 ∷ refused Types 8 ∷ []
 unfolding box body opened rule_fault form_fits first_of arity_of rule_keeps actions_keep action_keeps read_to read_from stop_or part_end end_from pattern_codes action_codes
 faults = refl

@@ -8,22 +8,20 @@ use native.Mathlib.Omega.{arith}
 use lib.Dec.{leb, ltb}
 use lib.ListN.{drop, length}
 use borrow.Author.Tests.{le-leb, lt-leb, lt-ltb, le-ltb}
-use Rattle.model.specs.Expressions.{read_many, expression, expression_limits}
+use Rattle.model.specs.Expressions.{Read, read_many, expression, expression_limits}
 use Rattle.model.specs.Rules.{Action, nothing, bare, send, read_action, read_rule, rule_read, Rule, action_limits, size_of_action, Fit, fits, fails, also, fit_if, is_fit}
 use Rattle.model.specs.NetworkFile.{rule_limits}
-use Rattle.expressions.specs.declared.Form.TheVariants.{Bytes}
 use Rattle.expressions.specs.Reading.{limits_read, end_from, is_read}
 use Rattle.shapes.specs.declared.Arity.{Arity}
 use Rattle.rules.specs.declared.Parts.{Parts}
-use Rattle.rules.specs.declared.Layout.TheVariants as layout
 use Rattle.rules.specs.Bodies.{action_codes, actions_from, sent_limits, layout_of}
 use Rattle.rules.proofs.Keeping.{keeps, keeps_more, keeps_read, keeps_is}
 use Rattle.rules.proofs.Laying.{Laid, laid, rule_is, rule_read_lem}
-use Rattle.typing.specs.declared.Fitting.TheVariants.{Fits, Fails}
+use Rattle.std.specs.Prelude.{Ok, Err, Some}
 use Rattle.typing.specs.Fits.{fitting_of, list_read}
 use Rattle.typing.specs.Limits.{action_keeps, actions_keep, rule_keeps}
 use Rattle.typing.proofs.Peeling.{Peel, peel}
-use Rattle.typing.proofs.Actions.{action_read}
+use Rattle.typing.proofs.Actions.{action_read, outputs_too}
 use Rattle.typing.proofs.Wholes.{at_vars, at_guard, at_outs, at_sets, also_fail, also_on}
 
 -- ── one action after another ─────────────────────────────────────────────────────────────────
@@ -43,7 +41,7 @@ module _ (v : Bool) (b : List ℕ) where
   unfolding actions_keep actions_from read_many list_read
   keep_none k at h = let q : k ≡ 0 = omega arith in rw q
 
-  module _ (k at end : ℕ) (h : 0 < k) (r : is_read (actions_from v k at b) ≡ true) (g : end_from at (read_action (action_codes v) (drop at b)) ≡ Bytes end) where
+  module _ (k at end : ℕ) (h : 0 < k) (r : is_read (actions_from v k at b) ≡ true) (g : end_from at (read_action (action_codes v) (drop at b)) ≡ Some end) where
     peeled : Peel (read_action (action_codes v)) b k at end
     unfolding actions_from
     peeled = peel (read_action (action_codes v)) b k at end h r g
@@ -63,7 +61,7 @@ module _ (v : Bool) (b : List ℕ) where
     unfolding actions_from
     keep_read = peeled.rest
 
-    pub keep_fail : {w : Fit} → sent_limits (drop at b) ≡ false → left_keep k at ≡ w → Fails (at + 1) ≡ fitting_of w
+    pub keep_fail : {w : Fit} → sent_limits (drop at b) ≡ false → left_keep k at ≡ w → Err (at + 1) ≡ fitting_of w
     unfolding fitting_of also fit_if
     keep_fail e i = let w : left_keep k at ≡ fails (at + 1) = keep_first ∙ rw e in ap fitting_of (sym w ∙ i)
 
@@ -73,7 +71,7 @@ module _ (v : Bool) (b : List ℕ) where
 
 -- ── the ways out of the whole check ──────────────────────────────────────────────────────────
 
-module _ (a : Arity) (b : List ℕ) (p : Parts) (whole : layout_of a b ≡ layout.Whole p) (seen : ℕ) where
+module _ (a : Arity) (b : List ℕ) (p : Parts) (whole : layout_of a b ≡ Some p) (seen : ℕ) where
   abbrev x : Laid a b p
   x = laid a b p whole
 
@@ -92,20 +90,23 @@ module _ (a : Arity) (b : List ℕ) (p : Parts) (whole : layout_of a b ≡ layou
   unfolding is_read
   outs_read = rw x.outs.read
 
-  pub sets_read : is_read (actions_from true a.vars p.sets b) ≡ true
+  sets_read : is_read (actions_from true a.vars p.sets b) ≡ true
   unfolding is_read
   sets_read = rw x.sets.read
 
-  pub many_rules : 16 ≤ seen → Fails 0 ≡ fitting_of Said
+  pub sets_there : is_read (actions_from false a.vars p.sets b) ≡ true
+  sets_there = ap is_read (outputs_too a.vars p.sets b sets_read) ∙ sets_read
+
+  pub many_rules : 16 ≤ seen → Err 0 ≡ fitting_of Said
   unfolding fitting_of also fit_if
   many_rules h = let w : Said ≡ fails 0 = laid_keeps ∙ rw (le-ltb seen 16 h) in ap fitting_of (sym w)
 
-  pub long_body : seen < 16 → 512 < length b → Fails 0 ≡ fitting_of Said
+  pub long_body : seen < 16 → 512 < length b → Err 0 ≡ fitting_of Said
   unfolding fitting_of also fit_if
   long_body h l = let w : Said ≡ fails 0 = laid_keeps ∙ rw (lt-ltb seen 16 h, lt-leb (length b) 512 l) in ap fitting_of (sym w)
 
   module _ (h : seen < 16) (l : length b ≤ 512) where
-    pub guard_over : limits_read (expression (drop p.guard b)) ≡ false → Fails p.guard ≡ fitting_of Said
+    pub guard_over : limits_read (expression (drop p.guard b)) ≡ false → Err p.guard ≡ fitting_of Said
     unfolding fitting_of also fit_if
     guard_over g = let w : Said ≡ fails p.guard = laid_keeps ∙ rw (lt-ltb seen 16 h, le-leb (length b) 512 l, g) in ap fitting_of (sym w)
 
@@ -114,11 +115,11 @@ module _ (a : Arity) (b : List ℕ) (p : Parts) (whole : layout_of a b ≡ layou
       unfolding also fit_if
       actions_left = laid_keeps ∙ rw (lt-ltb seen 16 h, le-leb (length b) 512 l, g)
 
-      pub sent_over : (j : ℕ) → Fails j ≡ fitting_of (left_keep false b a.outs p.outs) → Fails j ≡ fitting_of Said
+      pub sent_over : (j : ℕ) → Err j ≡ fitting_of (left_keep false b a.outs p.outs) → Err j ≡ fitting_of Said
       sent_over j e = also_fail _ (left_keep true b a.vars p.sets) j e ∙ ap fitting_of (sym actions_left)
 
-      pub sets_left : Fits ≡ fitting_of (left_keep false b a.outs p.outs) → fitting_of (left_keep true b a.vars p.sets) ≡ fitting_of Said
-      sets_left e = ap fitting_of (sym (actions_left ∙ also_on _ _ e))
+      pub sets_left : Ok tt ≡ fitting_of (left_keep false b a.outs p.outs) → fitting_of (left_keep false b a.vars p.sets) ≡ fitting_of Said
+      sets_left e = ap fitting_of (ap (λ (r : Read (List Action)). actions_keep p.sets (list_read r)) (outputs_too a.vars p.sets b sets_read) ∙ sym (actions_left ∙ also_on _ _ e))
 
 -- ── the same as a test ───────────────────────────────────────────────────────────────────────
 

@@ -7,7 +7,9 @@ use Prim.Native.Nat.{ℕ, zero, suc, ◌+◌, ◌-◌, ◌*◌, ◌≤◌, ◌<�
 use native.Mathlib.Omega.{arith}
 use lib.Dec.{leb, ltb, eqb}
 use lib.IntN.{ℤ}
-use lib.ListN.{get_or, drop, length, get_or-eq_default}
+use lib.ListN.{get_or, drop, length, set, length-set, get_or-eq_default}
+use lib.Seq.{get_or-set_same, get_or-set_other}
+use borrow.Author.Count.{below_more}
 use borrow.Author.Tests.{le-leb, lt-leb, ltb-true, ltb-false, ne_eqb, leb-true}
 use Rattle.model.specs.declared.Ty.{Ty}
 use Rattle.model.specs.Bytes.{value_at}
@@ -15,18 +17,17 @@ use Rattle.model.specs.Values.{no_type, is_dc, carried, in_precision, within}
 use Rattle.model.specs.Expressions.{Read, got, read_many, provided, type_at}
 use Rattle.model.specs.NetworkFile.{tabulate}
 use Rattle.model.specs.Rules.{Pattern, any, only, pattern_of, pattern_size, input_code, variable_code, read_pattern, Fit, fits, also, fit_if, tag_fits, pattern_fits, size_of_pattern, patterns_fit, matched_type, matched_types}
-use Rattle.model.proofs.Tests.{and_left, and_right}
-use Rattle.expressions.specs.Reading.{end_from, is_read}
-use Rattle.expressions.specs.declared.Form.TheVariants.{Bytes, Malformed}
+use Rattle.model.proofs.Tests.{and_left, and_right, and₃}
+use Rattle.expressions.specs.Reading.{end_from, is_read, skip_to}
 use Rattle.expressions.proofs.Heads.{head_at}
 use Rattle.octets.proofs.Laws.{value_drop}
 use Rattle.shapes.specs.Shapes.{types_in}
 use Rattle.types.specs.Scopes.{scope_in}
-use Rattle.rules.specs.Bodies.{pattern_codes, patterns_from}
-use Rattle.rules.proofs.Ends.{pattern_none}
+use Rattle.rules.specs.Bodies.{pattern_codes, any_code, patterns_from}
+use Rattle.rules.proofs.Ends.{pattern_none, pattern_there, pattern_skip, pattern_whole_there}
 use Rattle.typing.specs.Fits.{fitting_of, list_read, tag_of, scope_read, Precise, Agree}
-use Rattle.typing.specs.declared.Fitting.TheVariants.{Fails}
-use Rattle.typing.proofs.Peeling.{types_from, types_all, types_more, Peel, peel, there}
+use Rattle.std.specs.Prelude.{Err, Some, None}
+use Rattle.typing.proofs.Peeling.{types_from, types_all, types_more, Peel, peel, there, first_read, wider, is_provided}
 
 -- ── by its code ──────────────────────────────────────────────────────────────────────────────
 
@@ -137,12 +138,46 @@ pattern_size_lem v s e =
     let r = pattern_read (pattern_codes v) s e in
     ap size_of_pattern r.pattern ∙ size_known v (get_or s 0 0) (value_at s 1) r.code ∙ sym r.size
 
-pub pattern_inside : (v : Bool) (b : List ℕ) (at end : ℕ) → end_from at (read_pattern (pattern_codes v) (drop at b)) ≡ Bytes end → at < length b
+pub pattern_inside : (v : Bool) (b : List ℕ) (at end : ℕ) → end_from at (read_pattern (pattern_codes v) (drop at b)) ≡ Some end → at < length b
 pattern_inside v b at end e = go (ltb at (length b)) refl
   where
     go : (t : Bool) → ltb at (length b) ≡ t → at < length b
     go true q = ltb-true at (length b) q
-    go false q = let w : Malformed ≡ Bytes end = pattern_none (pattern_codes v) b at (ltb-false at (length b) q) ∙ e in let z : ◌≡◌ {A = ℕ} 0 1 = cc in absurd (omega arith)
+    go false q = let w : None ≡ Some end = pattern_none (pattern_codes v) b at (ltb-false at (length b) q) ∙ e in let z : ◌≡◌ {A = ℕ} 0 1 = cc in absurd (omega arith)
+
+-- what can be a variable's can be an input's
+variable_input : (c : ℕ) → pattern_codes true c ≡ true → pattern_codes false c ≡ true
+unfolding pattern_codes variable_code input_code
+variable_input zero e = refl
+variable_input (suc zero) e = refl
+variable_input (suc (suc zero)) e = refl
+variable_input (suc (suc (suc c))) e = let u : false ≡ true = rw (ne_eqb (suc (suc (suc c))) 0 (λ i. omega arith), ne_eqb (suc (suc (suc c))) 2 (λ i. omega arith)) at e in let z : ◌≡◌ {A = ℕ} 0 1 = cc in absurd (omega arith)
+
+pattern_wider : (s : List ℕ) → is_read (read_pattern (pattern_codes true) s) ≡ true → read_pattern (pattern_codes false) s ≡ read_pattern (pattern_codes true) s
+unfolding read_pattern
+pattern_wider s e =
+    let c = get_or s 0 0 in
+    let k = and₃ (ltb 0 (length s)) (pattern_codes true c) (leb (pattern_size c) (length s)) (is_provided _ _ e) in
+    rw (k.1, variable_input c k.1)
+
+pub inputs_too : (n at : ℕ) (b : List ℕ) → is_read (patterns_from true n at b) ≡ true → patterns_from false n at b ≡ patterns_from true n at b
+unfolding patterns_from
+inputs_too n at b e = wider (read_pattern (pattern_codes true)) (read_pattern (pattern_codes false)) pattern_wider n (drop at b) e
+
+-- the first of those that are there, and where it ends
+module _ (v : Bool) (b : List ℕ) (k at : ℕ) (h : 0 < k) (r : is_read (patterns_from v k at b) ≡ true) where
+  first : is_read (read_pattern (pattern_codes v) (drop at b)) ≡ true
+  unfolding patterns_from
+  first = first_read (read_pattern (pattern_codes v)) b k at h r
+
+  pub pattern_first : is_read (read_pattern any_code (drop at b)) ≡ true
+  pattern_first = pattern_there (pattern_codes v) b at first
+
+  pub pattern_within : at < length b
+  pattern_within = (pattern_whole_there b at pattern_first).0
+
+  pub pattern_next : (end : ℕ) → end ≡ skip_to at (read_pattern any_code (drop at b)) → end_from at (read_pattern (pattern_codes v) (drop at b)) ≡ Some end
+  pattern_next = pattern_skip (pattern_codes v) b at first
 
 -- ── one after another ────────────────────────────────────────────────────────────────────────
 
@@ -163,11 +198,11 @@ module _ (v : Bool) (b : List ℕ) where
         let g : at + size_of_pattern x.first.thing ≡ end = ap (λ (j : ℕ). at + j) (pattern_size_lem v (drop at b) x.first.read) ∙ sym x.first.ends in
         rw (x.list, types_more types k n h) (rw (g, pattern_at at x.first.read, q))
 
-    pub fit_step : (k at end : ℕ) (t : Bool) → k < n → is_read (patterns_from v (n - k) at b) ≡ true → end_from at (read_pattern (pattern_codes v) (drop at b)) ≡ Bytes end → t ≡ pattern_fits (type_at types (2 * k)) (pattern_of (get_or b at 0) (value_at b (at + 1))) → left_fit k at ≡ also (fit_if t at) (left_fit (k + 1) end)
+    pub fit_step : (k at end : ℕ) (t : Bool) → k < n → is_read (patterns_from v (n - k) at b) ≡ true → end_from at (read_pattern (pattern_codes v) (drop at b)) ≡ Some end → t ≡ pattern_fits (type_at types (2 * k)) (pattern_of (get_or b at 0) (value_at b (at + 1))) → left_fit k at ≡ also (fit_if t at) (left_fit (k + 1) end)
     unfolding patterns_from
     fit_step k at end t h e g r = fit_peeled k at end h (peel (read_pattern (pattern_codes v)) b (n - k) at end (omega arith) e g) ∙ ap (λ (u : Bool). also (fit_if u at) (left_fit (k + 1) end)) (sym r)
 
-    pub read_step : (k at end : ℕ) → k < n → is_read (patterns_from v (n - k) at b) ≡ true → end_from at (read_pattern (pattern_codes v) (drop at b)) ≡ Bytes end → is_read (patterns_from v (n - (k + 1)) end b) ≡ true
+    pub read_step : (k at end : ℕ) → k < n → is_read (patterns_from v (n - k) at b) ≡ true → end_from at (read_pattern (pattern_codes v) (drop at b)) ≡ Some end → is_read (patterns_from v (n - (k + 1)) end b) ≡ true
     unfolding patterns_from
     read_step k at end h e g =
         let q : n - k - 1 ≡ n - (k + 1) = omega arith in
@@ -196,11 +231,11 @@ module _ (v : Bool) (b types : List ℕ) (n : ℕ) where
   pub fit_start : (from : ℕ) → left_fit v b types n 0 from ≡ all_fit from
   fit_start from = rw (minus_zero n, types_all types n)
 
-  module _ (k at end : ℕ) (t : Ty) (r : Bool) (h : k < n) (e : is_read (patterns_from v (n - k) at b) ≡ true) (g : end_from at (read_pattern (pattern_codes v) (drop at b)) ≡ Bytes end) (q : t ≡ type_at types (2 * k)) (f : r ≡ pattern_fits t (pattern_of (get_or b at 0) (value_at b (at + 1)))) where
+  module _ (k at end : ℕ) (t : Ty) (r : Bool) (h : k < n) (e : is_read (patterns_from v (n - k) at b) ≡ true) (g : end_from at (read_pattern (pattern_codes v) (drop at b)) ≡ Some end) (q : t ≡ type_at types (2 * k)) (f : r ≡ pattern_fits t (pattern_of (get_or b at 0) (value_at b (at + 1)))) where
     fit_one : left_fit v b types n k at ≡ also (fit_if r at) (left_fit v b types n (k + 1) end)
     fit_one = fit_step v b types n k at end r h e g (f ∙ ap (λ (u : Ty). pattern_fits u (pattern_of (get_or b at 0) (value_at b (at + 1)))) q)
 
-    pub fit_fail : r ≡ false → {w : Fit} → left_fit v b types n k at ≡ w → Fails at ≡ fitting_of w
+    pub fit_fail : r ≡ false → {w : Fit} → left_fit v b types n k at ≡ w → Err at ≡ fitting_of w
     unfolding fit_if also fitting_of
     fit_fail x {w} i = ap fitting_of (sym (ap (λ (u : Bool). also (fit_if u at) (left_fit v b types n (k + 1) end)) x) ∙ sym fit_one ∙ i)
 
@@ -231,7 +266,7 @@ module _ (b ins : List ℕ) (n : ℕ) where
       let q : n - j - 1 ≡ n - (j + 1) = omega arith in
       rw (x.list, types_more ins j n h) (rw (pattern_at false b at x.first.read, q))
 
-  pub matched_step : (j k at end : ℕ) → j < n → j < k → is_read (patterns_from false (n - j) at b) ≡ true → end_from at (read_pattern (pattern_codes false) (drop at b)) ≡ Bytes end → get_or (left_matched j at) (k - j) no_type ≡ get_or (left_matched (j + 1) end) (k - (j + 1)) no_type
+  pub matched_step : (j k at end : ℕ) → j < n → j < k → is_read (patterns_from false (n - j) at b) ≡ true → end_from at (read_pattern (pattern_codes false) (drop at b)) ≡ Some end → get_or (left_matched j at) (k - j) no_type ≡ get_or (left_matched (j + 1) end) (k - (j + 1)) no_type
   unfolding patterns_from
   matched_step j k at end h g e r =
       let q : k - j ≡ suc (k - (j + 1)) = omega arith in
@@ -289,25 +324,67 @@ pub types_at : (t : List ℕ) (n k : ℕ) → k < n → get_or (types_in t n) k 
 unfolding types_in
 types_at t n k h = tabulate_at n (λ k. type_at t (2 * k)) k h
 
+-- a type written at an offset of a table
+abbrev pub put_type : List ℕ → ℕ → Ty → List ℕ
+put_type ts at t = set (set ts at t.kind) (at + 1) t.p
+
+-- it stands there, and those at other offsets stay
+module _ (ts : List ℕ) (at : ℕ) (t : Ty) (h : at + 1 < length ts) where
+  kind_there : get_or (put_type ts at t) at 0 ≡ t.kind
+  kind_there = get_or-set_other (set ts at t.kind) (at + 1) at t.p 0 (λ e. omega arith) ∙ get_or-set_same ts at t.kind 0 (omega arith)
+
+  p_there : get_or (put_type ts at t) (at + 1) 0 ≡ t.p
+  p_there = get_or-set_same (set ts at t.kind) (at + 1) t.p 0 (simp length-set (omega arith))
+
+  pub type_there : type_at (put_type ts at t) at ≡ t
+  unfolding type_at
+  type_there = λ i. record { kind = kind_there i; p = p_there i }
+
+  byte_apart : (i : ℕ) → (i ≡ at → ⊥) → (i ≡ at + 1 → ⊥) → get_or (put_type ts at t) i 0 ≡ get_or ts i 0
+  byte_apart i n m = get_or-set_other (set ts at t.kind) (at + 1) i t.p 0 m ∙ get_or-set_other ts at i t.kind 0 n
+
+  pub type_apart : (i : ℕ) → (i ≡ at → ⊥) → (i + 1 ≡ at → ⊥) → (i ≡ at + 1 → ⊥) → type_at (put_type ts at t) i ≡ type_at ts i
+  unfolding type_at
+  type_apart i n l m = λ j. record { kind = byte_apart i n m j; p = byte_apart (i + 1) l (λ e. omega arith) j }
+
+-- the types of an input and of a variable, written at 2 k and at 8 + 2 k
+abbrev pub put_both : List ℕ → ℕ → Ty → Ty → List ℕ
+put_both ts k t u = put_type (put_type ts (2 * k) t) (8 + 2 * k) u
+
+module _ (ts : List ℕ) (k : ℕ) (t u : Ty) (h : k < 4) (l : length ts ≡ 16) where
+  length_put : length (put_type ts (2 * k) t) ≡ 16
+  length_put = simp length-set l
+
+  module _ (f : ℕ → Ty) where
+    pub inputs_more : ((j : ℕ) → j < k → type_at ts (2 * j) ≡ f j) → t ≡ f k → (j : ℕ) → j < k + 1 → type_at (put_both ts k t u) (2 * j) ≡ f j
+    inputs_more before here =
+        below_more (λ j. type_at (put_both ts k t u) (2 * j) ≡ f j) k
+        (λ j m. type_apart (put_type ts (2 * k) t) (8 + 2 * k) u (omega (arith, length_put)) (2 * j) (λ e. omega arith) (λ e. omega arith) (λ e. omega arith) ∙ type_apart ts (2 * k) t (omega arith) (2 * j) (λ e. omega arith) (λ e. omega arith) (λ e. omega arith) ∙ before j m)
+        (type_apart (put_type ts (2 * k) t) (8 + 2 * k) u (omega (arith, length_put)) (2 * k) (λ e. omega arith) (λ e. omega arith) (λ e. omega arith) ∙ type_there ts (2 * k) t (omega arith) ∙ here)
+
+    pub variables_more : ((j : ℕ) → j < k → type_at ts (8 + 2 * j) ≡ f j) → u ≡ f k → (j : ℕ) → j < k + 1 → type_at (put_both ts k t u) (8 + 2 * j) ≡ f j
+    variables_more before here =
+        below_more (λ j. type_at (put_both ts k t u) (8 + 2 * j) ≡ f j) k
+        (λ j m. type_apart (put_type ts (2 * k) t) (8 + 2 * k) u (omega (arith, length_put)) (8 + 2 * j) (λ e. omega arith) (λ e. omega arith) (λ e. omega arith) ∙ type_apart ts (2 * k) t (omega arith) (8 + 2 * j) (λ e. omega arith) (λ e. omega arith) (λ e. omega arith) ∙ before j m)
+        (type_there (put_type ts (2 * k) t) (8 + 2 * k) u (omega (arith, length_put)) ∙ here)
+
 -- the table of types agrees with what the patterns match
 module _ (ts ins vars : List ℕ) (n v : ℕ) (r : Read (List Pattern)) where
-  pub scope_agree : n ≤ 4 → v ≤ 4 → type_at ts 0 ≡ get_or (matched_types (types_in ins n) (list_read r)) 0 no_type → type_at ts 2 ≡ get_or (matched_types (types_in ins n) (list_read r)) 1 no_type
-      → type_at ts 4 ≡ get_or (matched_types (types_in ins n) (list_read r)) 2 no_type → type_at ts 6 ≡ get_or (matched_types (types_in ins n) (list_read r)) 3 no_type
-      → type_at ts 8 ≡ get_or (types_in vars v) 0 no_type → type_at ts 10 ≡ get_or (types_in vars v) 1 no_type → type_at ts 12 ≡ get_or (types_in vars v) 2 no_type → type_at ts 14 ≡ get_or (types_in vars v) 3 no_type
-      → Agree (scope_in ts) (scope_read (types_in ins n) (types_in vars v) r)
+  pub scope_agree : n ≤ 4 → v ≤ 4 → ((j : ℕ) → j < 4 → type_at ts (2 * j) ≡ get_or (matched_types (types_in ins n) (list_read r)) j no_type)
+      → ((j : ℕ) → j < 4 → type_at ts (8 + 2 * j) ≡ get_or (types_in vars v) j no_type) → Agree (scope_in ts) (scope_read (types_in ins n) (types_in vars v) r)
   unfolding scope_in scope_read
-  scope_agree h g a b c d e f x y = record { ins = is; vars = vs }
+  scope_agree h g a b = record { ins = is; vars = vs }
     where
       is : (i : ℕ) → get_or (type_at ts 0 ∷ type_at ts 2 ∷ type_at ts 4 ∷ type_at ts 6 ∷ []) i no_type ≡ get_or (matched_types (types_in ins n) (list_read r)) i no_type
-      is zero = a
-      is (suc zero) = b
-      is (suc (suc zero)) = c
-      is (suc (suc (suc zero))) = d
+      is zero = a 0 (omega arith)
+      is (suc zero) = a 1 (omega arith)
+      is (suc (suc zero)) = a 2 (omega arith)
+      is (suc (suc (suc zero))) = a 3 (omega arith)
       is (suc (suc (suc (suc i)))) = sym (matched_none ins n (list_read r) (suc (suc (suc (suc i)))) (omega arith))
 
       vs : (i : ℕ) → get_or (type_at ts 8 ∷ type_at ts 10 ∷ type_at ts 12 ∷ type_at ts 14 ∷ []) i no_type ≡ get_or (types_in vars v) i no_type
-      vs zero = e
-      vs (suc zero) = f
-      vs (suc (suc zero)) = x
-      vs (suc (suc (suc zero))) = y
+      vs zero = b 0 (omega arith)
+      vs (suc zero) = b 1 (omega arith)
+      vs (suc (suc zero)) = b 2 (omega arith)
+      vs (suc (suc (suc zero))) = b 3 (omega arith)
       vs (suc (suc (suc (suc i)))) = sym (types_none vars v (suc (suc (suc (suc i)))) (omega arith))

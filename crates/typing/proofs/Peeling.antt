@@ -7,14 +7,13 @@ use Prim.Native.Nat.{ℕ, zero, suc, ◌+◌, ◌-◌, ◌*◌, ◌<◌}
 use native.Mathlib.Omega.{arith}
 use lib.ListN.{drop}
 use lib.Seq.{drop-drop}
+use Rattle.std.specs.Prelude.{Some}
 use Rattle.model.specs.declared.Ty.{Ty}
-use Rattle.model.specs.Expressions.{Read, bad, got, after, read_many, type_at}
+use Rattle.model.specs.Expressions.{Read, bad, got, after, read_many, provided, type_at}
 use Rattle.model.specs.NetworkFile.{tabulate}
 use Rattle.expressions.specs.Reading.{end_from, is_read}
-use Rattle.expressions.specs.declared.Form.TheVariants.{Bytes, Malformed}
 use Rattle.shapes.specs.Shapes.{types_in}
 use Rattle.shapes.proofs.Laws.{tabulate-same}
-use Rattle.rules.proofs.Ends.{end_bad}
 use Rattle.rules.proofs.Laying.{Found, found}
 use Rattle.typing.specs.Fits.{list_read}
 
@@ -46,11 +45,6 @@ pub record Peeled {A : Type 0} (f : List ℕ → Read A) (b : List ℕ) (k at : 
   pub end : ℕ
   pub peeled : Peel f b k at end
 
-pub never : {A : Type 0} (at : ℕ) (r : Read A) → is_read r ≡ true → end_from at r ≡ Malformed → ⊥
-unfolding is_read end_from
-never at bad e g = let z : ◌≡◌ {A = ℕ} 0 1 = cc in omega arith
-never at (got x n) e g = let z : ◌≡◌ {A = ℕ} 0 1 = cc in omega arith
-
 module _ {A : Type 0} (f : List ℕ → Read A) (b : List ℕ) where
   pub many_is : (k at end : ℕ) (x : Found (f (drop at b)) at end) → read_many f (suc k) (drop at b) ≡ after (read_many f k (drop end b)) (λ rest m. got (x.thing ∷ rest) (x.size + m))
   unfolding read_many after
@@ -77,7 +71,7 @@ module _ {A : Type 0} (f : List ℕ → Read A) (b : List ℕ) where
         list = ap list_read (many_is k at end x) ∙ rest_list x.thing x.size r g ∙ ap (λ (j : ℕ). x.thing ∷ list_read (read_many f j (drop end b))) q;
       }
 
-  pub peel : (k at end : ℕ) → 0 < k → is_read (read_many f k (drop at b)) ≡ true → end_from at (f (drop at b)) ≡ Bytes end → Peel f b k at end
+  pub peel : (k at end : ℕ) → 0 < k → is_read (read_many f k (drop at b)) ≡ true → end_from at (f (drop at b)) ≡ Some end → Peel f b k at end
   peel zero at end l e g = absurd (omega arith)
   peel (suc k) at end l e g = peel_suc k at end e (found (f (drop at b)) at end g)
 
@@ -86,9 +80,6 @@ module _ {A : Type 0} (f : List ℕ → Read A) (b : List ℕ) where
   there_go k at bad q e = let z : ◌≡◌ {A = Bool} false true = rw q at e in let w : ◌≡◌ {A = ℕ} 0 1 = cc in absurd (omega arith)
   there_go k at (got x n) q e = record { end = at + n; peeled = peel_suc k at (at + n) e (record { thing = x; size = n; read = q; ends = refl }) }
 
-  pub not-bad : (k at : ℕ) → 0 < k → is_read (read_many f k (drop at b)) ≡ true → end_from at (f (drop at b)) ≡ Malformed → ⊥
-  not-bad k at l e g = never at (read_many f k (drop at b)) e (end_bad f b k at l g)
-
   pub there : (k at : ℕ) → 0 < k → is_read (read_many f k (drop at b)) ≡ true → Peeled f b k at
   there zero at l e = absurd (omega arith)
   there (suc k) at l e = there_go k at (f (drop at b)) refl e
@@ -96,3 +87,25 @@ module _ {A : Type 0} (f : List ℕ → Read A) (b : List ℕ) where
   pub first_read : (k at : ℕ) → 0 < k → is_read (read_many f k (drop at b)) ≡ true → is_read (f (drop at b)) ≡ true
   unfolding is_read
   first_read k at l e = rw (there k at l e).peeled.first.read
+
+-- what one reader finds, another that knows more finds too
+module _ {A : Type 0} (f g : List ℕ → Read A) (same : (s : List ℕ) → is_read (f s) ≡ true → g s ≡ f s) where
+  wider_go : (k : ℕ) (s : List ℕ) (r : Read A) → f s ≡ r → ((u : List ℕ) → is_read (read_many f k u) ≡ true → read_many g k u ≡ read_many f k u)
+      → is_read (after r (λ a n. after (read_many f k (drop n s)) (λ rest m. got (a ∷ rest) (n + m)))) ≡ true
+      → after (g s) (λ a n. after (read_many g k (drop n s)) (λ rest m. got (a ∷ rest) (n + m))) ≡ after r (λ a n. after (read_many f k (drop n s)) (λ rest m. got (a ∷ rest) (n + m)))
+  unfolding after is_read
+  wider_go k s bad q h e = let z : ◌≡◌ {A = ℕ} 0 1 = cc in absurd (omega arith)
+  wider_go k s (got a n) q h e =
+      let first : g s ≡ got a n = same s (rw q) ∙ q in
+      let rest : is_read (read_many f k (drop n s)) ≡ true = sym (rest_read f s a n (read_many f k (drop n s))) ∙ e in
+      rw (first, h (drop n s) rest)
+
+  pub wider : (k : ℕ) (s : List ℕ) → is_read (read_many f k s) ≡ true → read_many g k s ≡ read_many f k s
+  unfolding read_many
+  wider zero s e = refl
+  wider (suc k) s e = wider_go k s (f s) refl (wider k) e
+
+pub is_provided : {A : Type 0} (t : Bool) (r : Read A) → is_read (provided t r) ≡ true → t ≡ true
+unfolding is_read provided
+is_provided true r e = refl
+is_provided false r e = let z : ◌≡◌ {A = ℕ} 0 1 = cc in absurd (omega arith)

@@ -15,10 +15,10 @@ use Rattle.model.specs.Rules.{also, fit_if, tag_fits, has_type, guard_fits, acti
 use Rattle.expressions.specs.Reading.{limits_read}
 use Rattle.expressions.proofs.Depths.{All, bounded}
 use Rattle.expressions.proofs.Parts.{size_is}
-use Rattle.types.specs.declared.Typing.TheVariants as typing
+use Rattle.types.specs.declared.Typed.{Typed as TypedTo}
 use Rattle.types.specs.Scopes.{placed, typed_at}
 use Rattle.rules.proofs.Ends.{nothing_there}
-use Rattle.typing.specs.declared.Fitting.TheVariants.{Fails}
+use Rattle.std.specs.Prelude.{Ok, Err}
 use Rattle.typing.specs.Fits.{Agree, exp_read, fitting_of}
 
 -- ── the same scope by number ─────────────────────────────────────────────────────────────────
@@ -97,28 +97,28 @@ exp_there b at e = go (ltb at (length b)) refl
     go false q = let z : false ≡ true = rw (nothing_there b at (ltb-false at (length b) q)) at e in let w : ◌≡◌ {A = ℕ} 0 1 = cc in absurd (omega arith)
 
 module _ (sc : Scope) (u : List ℕ) where
-  typed_go : (r : Read Exp) {t : Ty} {m : ℕ} → limits_read r ≡ true → typing.Typed t m ≡ typed_at sc 0 r → type_of sc (exp_read r) ≡ typed t
+  typed_go : (r : Read Exp) {x : TypedTo} → limits_read r ≡ true → Ok x ≡ typed_at sc 0 r → type_of sc (exp_read r) ≡ typed x.ty
   unfolding limits_read typed_at exp_read placed
   typed_go bad l e = let z : ◌≡◌ {A = ℕ} 0 1 = cc in absurd (omega arith)
-  typed_go (got x n) {t} {m} l e = go (type_of sc x) e
+  typed_go (got e n) {x} l q = go (type_of sc e) q
     where
-      go : (y : Typed) → typing.Typed t m ≡ placed 0 n y → y ≡ typed t
-      go (typed v) q = ap typed (sym cc)
+      go : (y : Typed) → Ok x ≡ placed 0 n y → y ≡ typed x.ty
+      go (typed v) q = let w : x ≡ record { ty = v; next = 0 + n } = cc in ap typed (sym (ap (λ (x : TypedTo). x.ty) w))
       go (ill k) q = let z : ◌≡◌ {A = ℕ} 0 1 = cc in absurd (omega arith)
 
-  ill_go : (r : Read Exp) {k : ℕ} → limits_read r ≡ true → typing.Ill k ≡ typed_at sc 0 r → type_of sc (exp_read r) ≡ ill k
+  ill_go : (r : Read Exp) {k : ℕ} → limits_read r ≡ true → Err k ≡ typed_at sc 0 r → type_of sc (exp_read r) ≡ ill k
   unfolding limits_read typed_at exp_read placed
   ill_go bad l e = let z : ◌≡◌ {A = ℕ} 0 1 = cc in absurd (omega arith)
   ill_go (got x n) {k} l e = go (type_of sc x) e
     where
-      go : (y : Typed) → typing.Ill k ≡ placed 0 n y → y ≡ ill k
+      go : (y : Typed) → Err k ≡ placed 0 n y → y ≡ ill k
       go (typed v) q = let z : ◌≡◌ {A = ℕ} 0 1 = cc in absurd (omega arith)
       go (ill j) q = let w : k ≡ 0 + j = cc in ap ill (omega arith)
 
-  pub is_typed_lem : {t : Ty} {m : ℕ} → limits_read (expression u) ≡ true → typing.Typed t m ≡ typed_at sc 0 (expression u) → type_of sc (exp_read (expression u)) ≡ typed t
+  pub is_typed_lem : {x : TypedTo} → limits_read (expression u) ≡ true → Ok x ≡ typed_at sc 0 (expression u) → type_of sc (exp_read (expression u)) ≡ typed x.ty
   is_typed_lem l e = typed_go (expression u) l e
 
-  pub is_ill : {k : ℕ} → limits_read (expression u) ≡ true → typing.Ill k ≡ typed_at sc 0 (expression u) → type_of sc (exp_read (expression u)) ≡ ill k
+  pub is_ill : {k : ℕ} → limits_read (expression u) ≡ true → Err k ≡ typed_at sc 0 (expression u) → type_of sc (exp_read (expression u)) ≡ ill k
   is_ill l e = ill_go (expression u) l e
 
   ill_bound : (r : Read Exp) {k : ℕ} → expression u ≡ r → limits_read r ≡ true → type_of sc (exp_read r) ≡ ill k → All (λ x m. (1 ≤ m) × (m ≤ length u)) r → k < length u
@@ -129,7 +129,7 @@ module _ (sc : Scope) (u : List ℕ) where
       let v : k < size_of x = rw e at w in
       omega (arith, size_is u q)
 
-  pub ill_inside : {k : ℕ} → limits_read (expression u) ≡ true → typing.Ill k ≡ typed_at sc 0 (expression u) → k < length u
+  pub ill_inside : {k : ℕ} → limits_read (expression u) ≡ true → Err k ≡ typed_at sc 0 (expression u) → k < length u
   ill_inside l e = ill_bound (expression u) refl l (is_ill l e) (bounded u)
 
 -- ── guards, and expressions that are sent ────────────────────────────────────────────────────
@@ -138,20 +138,20 @@ module _ (sc : Scope) (b u : List ℕ) (at : ℕ) (d : u ≡ drop at b) (l : lim
   part_limits : limits_read (expression u) ≡ true
   part_limits = ap (λ (x : List ℕ). limits_read (expression x)) d ∙ l
 
-  pub part_typed : {t : Ty} {m : ℕ} → typing.Typed t m ≡ typed_at sc 0 (expression u) → type_of sc (exp_read (expression (drop at b))) ≡ typed t
+  pub part_typed : {x : TypedTo} → Ok x ≡ typed_at sc 0 (expression u) → type_of sc (exp_read (expression (drop at b))) ≡ typed x.ty
   part_typed e = ap (λ (x : List ℕ). type_of sc (exp_read (expression x))) (sym d) ∙ is_typed_lem sc u part_limits e
 
-  pub part_ill : {k : ℕ} → typing.Ill k ≡ typed_at sc 0 (expression u) → type_of sc (exp_read (expression (drop at b))) ≡ ill k
+  pub part_ill : {k : ℕ} → Err k ≡ typed_at sc 0 (expression u) → type_of sc (exp_read (expression (drop at b))) ≡ ill k
   part_ill e = ap (λ (x : List ℕ). type_of sc (exp_read (expression x))) (sym d) ∙ is_ill sc u part_limits e
 
-  pub part_inside : {k : ℕ} → typing.Ill k ≡ typed_at sc 0 (expression u) → k < length b - at
+  pub part_inside : {k : ℕ} → Err k ≡ typed_at sc 0 (expression u) → k < length b - at
   part_inside e = let q : length u ≡ length b - at = ap length d ∙ length-drop at b in omega (arith, ill_inside sc u part_limits e)
 
 pub guard_typed : (at : ℕ) (r : Typed) (t : Ty) (q : Bool) → r ≡ typed t → q ≡ is_bool t → fit_if q at ≡ guard_fits at r
 unfolding guard_fits
 guard_typed at r t q e g = rw (e, g)
 
-pub guard_ill : (at : ℕ) (r : Typed) (k : ℕ) → r ≡ ill k → Fails (at + k) ≡ fitting_of (guard_fits at r)
+pub guard_ill : (at : ℕ) (r : Typed) (k : ℕ) → r ≡ ill k → Err (at + k) ≡ fitting_of (guard_fits at r)
 unfolding guard_fits fitting_of
 guard_ill at r k e = rw e
 
@@ -165,6 +165,6 @@ module _ (sc : Scope) (at tag : ℕ) (t : Ty) (e : Exp) where
   unfolding action_fits has_type
   sent_typed_lem u w p q x y z v = also-if p q at ∙ rw (x, z, v, y)
 
-  pub sent_ill : (k : ℕ) → type_of sc e ≡ ill k → Fails (at + 1 + k) ≡ fitting_of (action_fits sc at t (send tag e))
+  pub sent_ill : (k : ℕ) → type_of sc e ≡ ill k → Err (at + 1 + k) ≡ fitting_of (action_fits sc at t (send tag e))
   unfolding action_fits has_type also fitting_of
   sent_ill k x = rw x

@@ -17,20 +17,20 @@ use Rattle.shapes.specs.Shapes.{types_in, shape_in}
 use Rattle.rules.specs.declared.Parts.{Parts}
 use Rattle.rules.specs.Bodies.{pattern_codes, action_codes, patterns_from, actions_from}
 use Rattle.rules.proofs.Laying.{Laid, rule_is, rule_read_lem}
-use Rattle.typing.specs.declared.Fitting.TheVariants.{Fits, Fails}
+use Rattle.std.specs.Prelude.{Ok, Err}
 use Rattle.typing.specs.Fits.{fitting_of, list_read, exp_read, scope_read, expressions_fit, Agree}
-use Rattle.typing.proofs.Patterns.{pattern_size_lem}
+use Rattle.typing.proofs.Patterns.{pattern_size_lem, inputs_too}
 use Rattle.typing.proofs.Scoping.{type_same}
 use Rattle.typing.proofs.Actions.{action_read}
 
 -- ── one part after another ───────────────────────────────────────────────────────────────────
 
-pub also_fail : (f g : Fit) (j : ℕ) → Fails j ≡ fitting_of f → Fails j ≡ fitting_of (also f g)
+pub also_fail : (f g : Fit) (j : ℕ) → Err j ≡ fitting_of f → Err j ≡ fitting_of (also f g)
 unfolding fitting_of also
 also_fail fits g j e = let z : ◌≡◌ {A = ℕ} 0 1 = cc in absurd (omega arith)
 also_fail (fails i) g j e = e
 
-pub also_on : (f g : Fit) → Fits ≡ fitting_of f → also f g ≡ g
+pub also_on : (f g : Fit) → Ok tt ≡ fitting_of f → also f g ≡ g
 unfolding fitting_of also
 also_on fits g e = refl
 also_on (fails i) g e = let z : ◌≡◌ {A = ℕ} 0 1 = cc in absurd (omega arith)
@@ -116,3 +116,7 @@ ins_read a b p x = rw x.ins.read
 pub vars_read : (a : Arity) (b : List ℕ) (p : Parts) → Laid a b p → is_read (patterns_from true a.vars p.vars b) ≡ true
 unfolding is_read
 vars_read a b p x = rw x.vars.read
+
+-- the patterns of the variables fit as those of inputs do
+pub vars_fit : (vars b : List ℕ) (a : Arity) (p : Parts) → Laid a b p → patterns_fit p.vars (types_in vars a.vars) (list_read (patterns_from false a.vars p.vars b)) ≡ patterns_fit p.vars (types_in vars a.vars) (list_read (patterns_from true a.vars p.vars b))
+vars_fit vars b a p x = ap (λ (r : Read (List Pattern)). patterns_fit p.vars (types_in vars a.vars) (list_read r)) (inputs_too a.vars p.vars b (vars_read a b p x))

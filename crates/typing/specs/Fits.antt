@@ -1,6 +1,6 @@
 -- What fits in a rule's body, as it is read.
 -- Assumes nothing.
-use Rattle.std.specs.Prelude.{ℕ, ◌-◌, ◌*◌, ◌<◌, ◌≡◌, true, false, cond, List, [], leb, get_or, drop}
+use Rattle.std.specs.Prelude.{ℕ, ◌-◌, ◌*◌, ◌<◌, ◌≡◌, true, false, cond, List, [], leb, get_or, drop, Result, Ok, Err, ⊤}
 use Rattle.model.specs.declared.Ty.{Ty}
 use Rattle.model.specs.Values.{no_type, in_precision}
 use Rattle.model.specs.Expressions.{Exp, Read, bad, got, expression, nothing_read, type_at, Scope, type_of}
@@ -10,12 +10,10 @@ use Rattle.shapes.specs.Shapes.{types_in}
 use Rattle.shapes.specs.declared.Arity.{Arity}
 use Rattle.rules.specs.declared.Parts.{Parts}
 use Rattle.rules.specs.Bodies.{actions_from, limits_of}
-use Rattle.typing.specs.declared.Fitting.{Fitting}
-use Rattle.typing.specs.declared.Fitting.TheVariants.{Fits, Fails}
 
-unfoldable pub fitting_of : Fit → Fitting  -- as the code says it
-fitting_of fits = Fits
-fitting_of (fails k) = Fails k
+unfoldable pub fitting_of : Fit → Result ⊤ ℕ  -- as the code says it: where it fails
+fitting_of fits = Ok tt
+fitting_of (fails k) = Err k
 
 unfoldable pub list_read : {A : Type 0} → Read (List A) → List A  -- what was read
 list_read bad = []

@@ -1,7 +1,7 @@
 #![tactic(auto)]
 
 // The limits and the types of a rule's body, and what is wrong with a rule.
-ghost use Rattle.std.specs.Prelude.{◌≡◌, true, false, ◌+◌, ◌*◌, ◌≤◌, ◌<◌, length, get_or, drop};
+ghost use Rattle.std.specs.Prelude.{◌≡◌, true, false, ◌+◌, ◌*◌, ◌≤◌, ◌<◌, length, get_or, drop, set, Some};
 ghost use Rattle.model.specs.Bytes.{value_at};
 ghost use Rattle.model.specs.Values.{no_type};
 ghost use Rattle.model.specs.Expressions.{type_at, expression, type_of};
@@ -14,34 +14,22 @@ ghost use Rattle.typing.specs.Fits.{fitting_of, list_read, exp_read, action_at, 
 ghost use Rattle.typing.specs.Limits.{actions_keep, rule_keeps};
 ghost use Rattle.typing.specs.RuleFault.{rule_fault};
 
-use expressions::Form;
-use model::Ty;
-use rules::{Layout, Parts};
+use model::{Reason, Ty};
+use rules::Parts;
 use shapes::Arity;
-use types::Typing;
 
-// All fits, or the offset of what does not.
-#[derive(Clone, Copy)]
-pub enum Fitting {
-    Fits,
-    Fails { at: usize },
-}
-
-// Nothing wrong with a rule, or the number of its fault and the offset in its body.
-#[derive(Clone, Copy)]
-pub enum RuleFault {
-    Sound,
-    Faulty { number: u8, at: usize },
+// What is wrong with a rule: its form, its limits or its types, and the offset in its body.
+#[derive(Clone, Copy, PartialEq, Eq, Debug)]
+pub struct RuleFault {
+    pub reason: Reason,
+    pub at: usize,
 }
 
 // Fits, or fails there.
-fn fit_if(ok: bool, at: usize) -> Fitting
+fn fit_if(ok: bool, at: usize) -> Result<(), usize>
     ensures { result ≡ fitting_of (fit_if ok at) }
 {
-    if ok {
-        return Fitting::Fits;
-    }
-    Fitting::Fails { at }
+    if ok { Ok(()) } else { Err(at) }
 }
 
 // The type k of a table.
@@ -83,26 +71,21 @@ fn pattern_fits(b: &[u8], at: usize, t: Ty) -> bool
     true
 }
 
-// The n patterns from an offset on fit the first types of a table.
-fn patterns_fit(b: &[u8], from: usize, n: usize, types: &[u8], var: bool) -> Fitting
+// The n patterns from an offset on fit the first types of a table. What can be a variable's can be an input's.
+fn patterns_fit(b: &[u8], from: usize, n: usize, types: &[u8]) -> Result<(), usize>
     requires n_bound { n ≤ 4 }
-    requires b_value { is_read (patterns_from var n from b.now) ≡ true }
+    requires b_value { is_read (patterns_from false n from b.now) ≡ true }
     requires precise { Precise types.now n }
-    ensures { result ≡ fitting_of (patterns_fit from (types_in types.now n) (list_read (patterns_from var n from b.now))) }
+    ensures { result ≡ fitting_of (patterns_fit from (types_in types.now n) (list_read (patterns_from false n from b.now))) }
 {
     let mut at = from;
-    let mut k = 0;
-    while k < n {
-        let Form::Bytes(end) = rules::pattern_end(b, at, var) else {
-            return Fitting::Fails { at };
-        };
+    for k in 0..n {
         if !pattern_fits(b, at, entry(types, k)) {
-            return Fitting::Fails { at };
+            return Err(at);
         }
-        at = end;
-        k += 1;
+        at = rules::skip_pattern(b, at);
     }
-    Fitting::Fits
+    Ok(())
 }
 
 // The type that a reference to input k has: its pattern must be 1 or 5.
@@ -115,10 +98,8 @@ fn matched_type(b: &[u8], n: usize, ins: &[u8], k: usize) -> Ty
         return Ty { kind: 255, p: 0 };
     }
     let mut at = 0;
-    let mut j = 0;
-    while j < k {
+    for _ in 0..k {
         at = rules::skip_pattern(b, at);
-        j += 1;
     }
     let c = octets::byte_at(b, at);
     if (c == 1) | (c == 5) {
@@ -138,62 +119,65 @@ fn variable_type(vars: &[u8], n: usize, k: usize) -> Ty
     entry(vars, k)
 }
 
+// A type, written at an offset of a table.
+fn put_type(types: &mut [u8; 16], at: usize, t: Ty)
+    requires { at < 15 }
+    ensures { types.new ≡ set (set types.old at t.kind) (at + 1) t.p }
+{
+    types[at] = t.kind;
+    types[at + 1] = t.p;
+}
+
 // The types that a rule's expressions may name: of the four inputs, then of the four variables.
 pub fn scope(b: &[u8], ins: &[u8], vars: &[u8], a: Arity) -> [u8; 16]
     requires ins_bound { (a.ins ≤ 4) × (a.vars ≤ 4) }
     requires b_value { is_read (patterns_from false a.ins 0 b.now) ≡ true }
     ensures { Agree (scope_in result) (scope_read (types_in ins.now a.ins) (types_in vars.now a.vars) (patterns_from false a.ins 0 b.now)) }
 {
-    let i = matched_type(b, a.ins, ins, 0);
-    let j = matched_type(b, a.ins, ins, 1);
-    let k = matched_type(b, a.ins, ins, 2);
-    let l = matched_type(b, a.ins, ins, 3);
-    let u = variable_type(vars, a.vars, 0);
-    let v = variable_type(vars, a.vars, 1);
-    let w = variable_type(vars, a.vars, 2);
-    let x = variable_type(vars, a.vars, 3);
-    [
-        i.kind, i.p, j.kind, j.p, k.kind, k.p, l.kind, l.p, u.kind, u.p, v.kind, v.p, w.kind, w.p,
-        x.kind, x.p,
-    ]
+    let mut types = [0; 16];
+    for k in 0..4 {
+        put_type(&mut types, 2 * k, matched_type(b, a.ins, ins, k));
+        put_type(&mut types, 8 + 2 * k, variable_type(vars, a.vars, k));
+    }
+    types
 }
 
 // A guard is bool.
-fn guard_fits(b: &[u8], at: usize, types: &[u8; 16]) -> Fitting
+fn guard_fits(b: &[u8], at: usize, types: &[u8; 16]) -> Result<(), usize>
     requires { limits_read (expression (drop at b.now)) ≡ true }
     ensures { result ≡ fitting_of (guard_fits at (type_of (scope_in types.now) (exp_read (expression (drop at b.now))))) }
 {
     match types::type_of(&b[at..], types) {
-        Typing::Typed { ty, next: _ } => fit_if(values::is_bool(ty), at),
-        Typing::Ill { at: k } => Fitting::Fails { at: at + k },
+        Ok(typed) => fit_if(values::is_bool(typed.ty), at),
+        Err(k) => Err(at + k),
     }
 }
 
 // The expression of an action has the type of what it fills, which takes its tag.
-fn sent_fits(b: &[u8], at: usize, tag: u8, t: Ty, types: &[u8; 16]) -> Fitting
+fn sent_fits(b: &[u8], at: usize, tag: u8, t: Ty, types: &[u8; 16]) -> Result<(), usize>
     requires at_in_bounds { at < length b.now }
     requires b_value { limits_read (expression (drop (at + 1) b.now)) ≡ true }
     ensures { result ≡ fitting_of (action_fits (scope_in types.now) at t (send tag (exp_read (expression (drop (at + 1) b.now))))) }
 {
     let from = at + 1;
     match types::type_of(&b[from..], types) {
-        Typing::Typed { ty, next: _ } => fit_if(
-            values::same_type(ty, values::carried(t)) & values::tag_fits(t, tag),
+        Ok(typed) => fit_if(
+            values::same_type(typed.ty, values::carried(t)) & values::tag_fits(t, tag),
             at,
         ),
-        Typing::Ill { at: k } => Fitting::Fails { at: from + k },
+        Err(k) => Err(from + k),
     }
 }
 
 // The action at an offset fits what it fills.
-fn action_fits(b: &[u8], at: usize, t: Ty, types: &[u8; 16]) -> Fitting
+fn action_fits(b: &[u8], at: usize, t: Ty, types: &[u8; 16]) -> Result<(), usize>
     requires at_in_bounds { at < length b.now }
     requires b_value { sent_limits (drop at b.now) ≡ true }
     ensures { result ≡ fitting_of (action_fits (scope_in types.now) at t (action_at (drop at b.now))) }
 {
     let c = octets::byte_at(b, at);
     if c == 0 {
-        return Fitting::Fits;
+        return Ok(());
     }
     if c == 1 {
         return sent_fits(b, at, 0, t, types);
@@ -204,33 +188,18 @@ fn action_fits(b: &[u8], at: usize, t: Ty, types: &[u8; 16]) -> Fitting
     fit_if(values::tag_fits(t, c - 2), at)
 }
 
-// The n actions from an offset on fit the first types of a table.
-fn actions_fit(
-    b: &[u8],
-    from: usize,
-    n: usize,
-    table: &[u8],
-    types: &[u8; 16],
-    var: bool,
-) -> Fitting
+// The n actions from an offset on fit the first types of a table. What can be a variable's can be an output's.
+fn actions_fit(b: &[u8], from: usize, n: usize, table: &[u8], types: &[u8; 16]) -> Result<(), usize>
     requires n_bound { n ≤ 4 }
-    requires b_value { limits_of (actions_from var n from b.now) ≡ true }
-    ensures { result ≡ fitting_of (actions_fit (scope_in types.now) from (types_in table.now n) (list_read (actions_from var n from b.now))) }
+    requires b_value { limits_of (actions_from false n from b.now) ≡ true }
+    ensures { result ≡ fitting_of (actions_fit (scope_in types.now) from (types_in table.now n) (list_read (actions_from false n from b.now))) }
 {
     let mut at = from;
-    let mut k = 0;
-    while k < n {
-        let Form::Bytes(end) = rules::action_end(b, at, var) else {
-            return Fitting::Fails { at };
-        };
-        let f = action_fits(b, at, entry(table, k), types);
-        let Fitting::Fits = f else {
-            return f;
-        };
-        at = end;
-        k += 1;
+    for k in 0..n {
+        action_fits(b, at, entry(table, k), types)?;
+        at = rules::skip_action(b, at);
     }
-    Fitting::Fits
+    Ok(())
 }
 
 // The guard, the output actions and the variable actions fit.
@@ -241,85 +210,72 @@ fn expressions_fit(
     a: Arity,
     p: Parts,
     types: &[u8; 16],
-) -> Fitting
+) -> Result<(), usize>
     requires outs_bound { (a.outs ≤ 4) × (a.vars ≤ 4) }
     requires kept { Kept a p b.now }
     ensures { result ≡ fitting_of (expressions_fit (scope_in types.now) a p outs.now vars.now b.now) }
 {
-    let guard = guard_fits(b, p.guard, types);
-    let Fitting::Fits = guard else {
-        return guard;
-    };
-    let sent = actions_fit(b, p.outs, a.outs, outs, types, false);
-    let Fitting::Fits = sent else {
-        return sent;
-    };
-    actions_fit(b, p.sets, a.vars, vars, types, true)
+    guard_fits(b, p.guard, types)?;
+    actions_fit(b, p.outs, a.outs, outs, types)?;
+    actions_fit(b, p.sets, a.vars, vars, types)
 }
 
 // The parts of a rule fit the shape of its box, from the left.
-pub fn types_fit(b: &[u8], ins: &[u8], outs: &[u8], vars: &[u8], a: Arity, p: Parts) -> Fitting
+pub fn types_fit(
+    b: &[u8],
+    ins: &[u8],
+    outs: &[u8],
+    vars: &[u8],
+    a: Arity,
+    p: Parts,
+) -> Result<(), usize>
     requires ins_bound { (a.ins ≤ 4) × (a.outs ≤ 4) × (a.vars ≤ 4) }
     requires precise { Precise ins.now a.ins × Precise vars.now a.vars }
-    requires b_value { layout_of a b.now ≡ Layout.Whole p }
+    requires b_value { layout_of a b.now ≡ Some p }
     requires kept { Kept a p b.now }
     ensures { result ≡ fitting_of (rule_fits (shape_in ins.now outs.now vars.now a) (rule_read (read_rule a.ins a.outs a.vars b.now))) }
 {
-    let first = patterns_fit(b, 0, a.ins, ins, false);
-    let Fitting::Fits = first else {
-        return first;
-    };
-    let second = patterns_fit(b, p.vars, a.vars, vars, true);
-    let Fitting::Fits = second else {
-        return second;
-    };
+    patterns_fit(b, 0, a.ins, ins)?;
+    patterns_fit(b, p.vars, a.vars, vars)?;
     let types = scope(b, ins, vars, a);
     expressions_fit(b, outs, vars, a, p, &types)
 }
 
 // The n actions from an offset on keep the limits of their expressions.
-fn actions_keep(b: &[u8], from: usize, n: usize, var: bool) -> Fitting
-    requires { is_read (actions_from var n from b.now) ≡ true }
-    ensures { result ≡ fitting_of (actions_keep from (list_read (actions_from var n from b.now))) }
+fn actions_keep(b: &[u8], from: usize, n: usize) -> Result<(), usize>
+    requires { is_read (actions_from false n from b.now) ≡ true }
+    ensures { result ≡ fitting_of (actions_keep from (list_read (actions_from false n from b.now))) }
 {
     let mut at = from;
-    let mut left = n;
-    while 0 < left {
-        let Form::Bytes(end) = rules::action_end(b, at, var) else {
-            return Fitting::Fails { at };
-        };
+    for _ in 0..n {
         if !rules::action_limits(b, at) {
             let over = at + 1;
-            return Fitting::Fails { at: over };
+            return Err(over);
         }
-        at = end;
-        left -= 1;
+        at = rules::skip_action(b, at);
     }
-    Fitting::Fits
+    Ok(())
 }
 
 // 16 rules a box, 512 bytes a body, and the limits of the guard and of each action; `seen` rules of its box stand before it.
-fn limits(b: &[u8], a: Arity, p: Parts, seen: usize) -> Fitting
-    requires { layout_of a b.now ≡ Layout.Whole p }
+fn limits(b: &[u8], a: Arity, p: Parts, seen: usize) -> Result<(), usize>
+    requires { layout_of a b.now ≡ Some p }
     ensures { result ≡ fitting_of (rule_keeps seen b.now (rule_read (read_rule a.ins a.outs a.vars b.now))) }
 {
     if 16 <= seen {
-        return Fitting::Fails { at: 0 };
+        return Err(0);
     }
     if 512 < b.len() {
-        return Fitting::Fails { at: 0 };
+        return Err(0);
     }
     if !rules::expression_limits(b, p.guard) {
-        return Fitting::Fails { at: p.guard };
+        return Err(p.guard);
     }
-    let sent = actions_keep(b, p.outs, a.outs, false);
-    let Fitting::Fits = sent else {
-        return sent;
-    };
-    actions_keep(b, p.sets, a.vars, true)
+    actions_keep(b, p.outs, a.outs)?;
+    actions_keep(b, p.sets, a.vars)
 }
 
-// What is wrong with a rule, from the left: 1 form, 2 limits, 4 types; `seen` rules of its box stand before it.
+// What is wrong with a rule, from the left: its form, then its limits, then its types; `seen` rules of its box stand before it.
 pub fn rule_fault(
     body: &[u8],
     ins: &[u8],
@@ -327,24 +283,23 @@ pub fn rule_fault(
     vars: &[u8],
     a: Arity,
     seen: usize,
-) -> RuleFault
+) -> Result<(), RuleFault>
     requires ins_bound { (a.ins ≤ 4) × (a.outs ≤ 4) × (a.vars ≤ 4) }
     requires precise { Precise ins.now a.ins × Precise vars.now a.vars }
     ensures { result ≡ rule_fault (shape_in ins.now outs.now vars.now a) seen body.now }
 {
-    let Layout::Whole { parts: p } = rules::parts_of(body, a) else {
-        return RuleFault::Faulty {
-            number: 1,
+    let Some(p) = rules::parts_of(body, a) else {
+        return Err(RuleFault {
+            reason: Reason::Form,
             at: rules::read_to(body, a),
-        };
+        });
     };
-    let kept = limits(body, a, p, seen);
-    if let Fitting::Fails { at } = kept {
-        return RuleFault::Faulty { number: 2, at };
-    }
-    let fitting = types_fit(body, ins, outs, vars, a, p);
-    if let Fitting::Fails { at } = fitting {
-        return RuleFault::Faulty { number: 4, at };
-    }
-    RuleFault::Sound
+    limits(body, a, p, seen).map_err(|at| RuleFault {
+        reason: Reason::Limits,
+        at,
+    })?;
+    types_fit(body, ins, outs, vars, a, p).map_err(|at| RuleFault {
+        reason: Reason::Types,
+        at,
+    })
 }

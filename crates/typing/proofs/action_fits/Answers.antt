@@ -11,9 +11,8 @@ returns-then-c-eq0 c =
 
 pub sent_fits-requires : goal.sent_fits-requires
 sent_fits-requires c =
-    let s = c in
-    let a = s.args in
-    record { at_in_bounds = s.requires.at_in_bounds; b_value = act_limits (scope_in a.types.now) a.b.now a.at a.t _ c.byte_at-c.ensures (holds_one _ c.if-c-eq1.true).0 s.requires.b_value }
+    let a = c.args in
+    record { at_in_bounds = c.requires.at_in_bounds; b_value = act_limits (scope_in a.types.now) a.b.now a.at a.t _ c.byte_at-c.ensures (holds_one _ c.if-c-eq1.true).0 c.requires.b_value }
 
 pub returns-then-c-eq1 : goal.returns-then-c-eq1
 returns-then-c-eq1 c =
@@ -23,9 +22,8 @@ returns-then-c-eq1 c =
 
 pub sent_fits-requires-then-c-eq5 : goal.sent_fits-requires-then-c-eq5
 sent_fits-requires-then-c-eq5 c =
-    let s = c in
-    let a = s.args in
-    record { at_in_bounds = s.requires.at_in_bounds; b_value = act_limits (scope_in a.types.now) a.b.now a.at a.t _ c.byte_at-c.ensures (holds_five _ c.if-c-eq5.true).0 s.requires.b_value }
+    let a = c.args in
+    record { at_in_bounds = c.requires.at_in_bounds; b_value = act_limits (scope_in a.types.now) a.b.now a.at a.t _ c.byte_at-c.ensures (holds_five _ c.if-c-eq5.true).0 c.requires.b_value }
 
 pub returns-then-c-eq5 : goal.returns-then-c-eq5
 returns-then-c-eq5 c =

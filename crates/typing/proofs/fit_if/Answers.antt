@@ -6,6 +6,6 @@ pub returns-then-ok : goal.returns-then-ok
 unfolding fitting_of fit_if
 returns-then-ok c = rw c.if-ok.true
 
-pub returns : goal.returns
+pub returns-else-ok : goal.returns-else-ok
 unfolding fitting_of fit_if
-returns c = rw c.if-ok.false
+returns-else-ok c = rw c.if-ok.false

@@ -18,24 +18,20 @@ slice_bounds-type_of-start c = omega (arith, exp_there c.args.b.now c.args.at c.
 
 pub type_of-requires : goal.type_of-requires
 type_of-requires c =
-    let s = c in
-    ap (λ (x : List ℕ). limits_read (expression x)) (part_is s.args.b.now s.args.at) ∙ s.requires
+    ap (λ (x : List ℕ). limits_read (expression x)) (part_is c.args.b.now c.args.at) ∙ c.requires
 
 pub overflow_add-result : goal.overflow_add-result
 overflow_add-result c =
-    let s = c in
-    let a = s.args in
-    record { fits = omega (arith, part_inside (scope_in a.types.now) a.b.now _ a.at (part_is a.b.now a.at) s.requires (sym c.in-Ill.is ∙ c.type_of.ensures), s.well_formed.0.0) }
+    let a = c.args in
+    record { fits = omega (arith, part_inside (scope_in a.types.now) a.b.now _ a.at (part_is a.b.now a.at) c.requires (sym c.in-Err.is ∙ c.type_of.ensures), c.well_formed.0.0) }
 
-pub returns-in-Typed : goal.returns-in-Typed
-returns-in-Typed c =
-    let s = c in
-    let a = s.args in
+pub returns-in-Ok : goal.returns-in-Ok
+returns-in-Ok c =
+    let a = c.args in
     c.fit_if.ensures
-    ∙ ap fitting_of (guard_typed a.at _ _ _ (part_typed (scope_in a.types.now) a.b.now _ a.at (part_is a.b.now a.at) s.requires (sym c.in-Typed.is ∙ c.type_of.ensures)) c.is_bool.ensures)
+    ∙ ap fitting_of (guard_typed a.at _ _ _ (part_typed (scope_in a.types.now) a.b.now _ a.at (part_is a.b.now a.at) c.requires (sym c.in-Ok.is ∙ c.type_of.ensures)) c.is_bool.ensures)
 
-pub returns-in-Ill : goal.returns-in-Ill
-returns-in-Ill c =
-    let s = c in
-    let a = s.args in
-    guard_ill a.at _ _ (part_ill (scope_in a.types.now) a.b.now _ a.at (part_is a.b.now a.at) s.requires (sym c.in-Ill.is ∙ c.type_of.ensures))
+pub returns-in-Err : goal.returns-in-Err
+returns-in-Err c =
+    let a = c.args in
+    guard_ill a.at _ _ (part_ill (scope_in a.types.now) a.b.now _ a.at (part_is a.b.now a.at) c.requires (sym c.in-Err.is ∙ c.type_of.ensures))

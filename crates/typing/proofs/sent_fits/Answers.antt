@@ -12,24 +12,20 @@ use Rattle.typing.proofs.sent_fits.Goals as goal
 
 pub type_of-requires : goal.type_of-requires
 type_of-requires c =
-    let s = c in
-    ap (λ (x : List ℕ). limits_read (expression x)) (part_is s.args.b.now (s.args.at + 1)) ∙ s.requires.b_value
+    ap (λ (x : List ℕ). limits_read (expression x)) (part_is c.args.b.now (c.args.at + 1)) ∙ c.requires.b_value
 
 pub overflow_add-result : goal.overflow_add-result
 overflow_add-result c =
-    let s = c in
-    let a = s.args in
-    record { fits = omega (arith, part_inside (scope_in a.types.now) a.b.now _ (a.at + 1) (part_is a.b.now (a.at + 1)) s.requires.b_value (sym c.in-Ill.is ∙ c.type_of.ensures), s.well_formed.0.0) }
+    let a = c.args in
+    record { fits = omega (arith, part_inside (scope_in a.types.now) a.b.now _ (a.at + 1) (part_is a.b.now (a.at + 1)) c.requires.b_value (sym c.in-Err.is ∙ c.type_of.ensures), c.well_formed.0.0) }
 
-pub returns-in-Typed : goal.returns-in-Typed
-returns-in-Typed c =
-    let s = c in
-    let a = s.args in
+pub returns-in-Ok : goal.returns-in-Ok
+returns-in-Ok c =
+    let a = c.args in
     c.fit_if.ensures
-    ∙ ap fitting_of (sent_typed_lem (scope_in a.types.now) a.at a.tag a.t _ _ _ _ _ (part_typed (scope_in a.types.now) a.b.now _ (a.at + 1) (part_is a.b.now (a.at + 1)) s.requires.b_value (sym c.in-Typed.is ∙ c.type_of.ensures)) c.carried.ensures c.same_type.ensures c.tag_fits.ensures)
+    ∙ ap fitting_of (sent_typed_lem (scope_in a.types.now) a.at a.tag a.t _ _ _ _ _ (part_typed (scope_in a.types.now) a.b.now _ (a.at + 1) (part_is a.b.now (a.at + 1)) c.requires.b_value (sym c.in-Ok.is ∙ c.type_of.ensures)) c.carried.ensures c.same_type.ensures c.tag_fits.ensures)
 
-pub returns-in-Ill : goal.returns-in-Ill
-returns-in-Ill c =
-    let s = c in
-    let a = s.args in
-    sent_ill (scope_in a.types.now) a.at a.tag a.t _ _ (part_ill (scope_in a.types.now) a.b.now _ (a.at + 1) (part_is a.b.now (a.at + 1)) s.requires.b_value (sym c.in-Ill.is ∙ c.type_of.ensures))
+pub returns-in-Err : goal.returns-in-Err
+returns-in-Err c =
+    let a = c.args in
+    sent_ill (scope_in a.types.now) a.at a.tag a.t _ _ (part_ill (scope_in a.types.now) a.b.now _ (a.at + 1) (part_is a.b.now (a.at + 1)) c.requires.b_value (sym c.in-Err.is ∙ c.type_of.ensures))
