@@ -11,20 +11,17 @@ use lib.ListN.{get_or, drop}
 use borrow.Author.Tests.{ne_eqb, eq-eqb}
 use Rattle.model.specs.Values.{eq_z}
 use Rattle.model.specs.Expressions.{Read, bad, got, after, read_many, expression}
-use Rattle.model.specs.Rules.{only, pattern_of, Action, send, bare_action, read_action, holds_expression, sent_tag}
+use Rattle.model.specs.Rules.{pattern_of, Action, send, bare_action, read_action, holds_expression, sent_tag}
 use Rattle.model.specs.Cycles.{matches, writes}
 use Rattle.expressions.specs.Reading.{end_from, is_read, skip_to}
-use Rattle.expressions.specs.declared.Form.TheVariants.{Bytes}
 use Rattle.expressions.proofs.Heads.{head_at}
 use Rattle.rules.specs.Bodies.{action_codes, any_code, actions_from}
 use Rattle.typing.specs.Fits.{tag_of, exp_read, action_at}
 use Rattle.rules.proofs.Laying.{found}
-use Rattle.rules.proofs.Ends.{action_there, action_skip}
-use Rattle.typing.proofs.Peeling.{many_is, peel, first_read}
+use Rattle.typing.proofs.Peeling.{many_is, peel}
 use Rattle.typing.proofs.Patterns.{constant_is, any_is}
-use Rattle.typing.proofs.Actions.{action_read}
-use Rattle.matching.specs.declared.Outs.{Outs}
-use Rattle.matching.specs.declared.Outs.TheVariants.{Open, Shut}
+use Rattle.typing.proofs.Actions.{action_read, action_next}
+use Rattle.std.specs.Prelude.{Option, Some, None}
 use Rattle.matching.specs.Outs.{open_from, outs_of}
 
 -- a code c that was read where o stands
@@ -75,42 +72,35 @@ writes_is b at =
 
 -- an action before others: they count only where it is open
 one_more : (fs : List ℕ) (k at size end : ℕ) (x : Action) (q : Read (List Action)) → end ≡ at + size
-    → outs_of fs k at (after q (λ rest n. got (x ∷ rest) (size + n))) ≡ cond (not (writes x && eqb (get_or fs k 0) 1)) (outs_of fs (k + 1) end q) Shut
+    → outs_of fs k at (after q (λ rest n. got (x ∷ rest) (size + n))) ≡ cond (not (writes x && eqb (get_or fs k 0) 1)) (outs_of fs (k + 1) end q) None
 unfolding outs_of after open_from
 one_more fs k at size end x bad e = sym (same (not (writes x && eqb (get_or fs k 0) 1)))
   where
-    same : (t : Bool) → cond t Shut Shut ≡ Shut
+    same : (t : Bool) → cond {A = Option ℕ} t None None ≡ None
     same true = refl
     same false = refl
-one_more fs k at size end x (got rest n) e = rw e (both (not (writes x && eqb (get_or fs k 0) 1)) (open_from fs (k + 1) rest) (ap Open (omega arith)))
+one_more fs k at size end x (got rest n) e = rw e (both (not (writes x && eqb (get_or fs k 0) 1)) (open_from fs (k + 1) rest) (ap Some (omega arith)))
   where
-    both : (t u : Bool) {y z : Outs} → y ≡ z → cond (t && u) y Shut ≡ cond t (cond u z Shut) Shut
+    both : (t u : Bool) {y z : Option ℕ} → y ≡ z → cond (t && u) y None ≡ cond t (cond u z None) None
     both true true e = e
     both true false e = refl
     both false u e = refl
 
 module _ (fs b : List ℕ) where
   -- the answer for m actions from an offset on, the first of them being number k
-  abbrev pub left : ℕ → ℕ → ℕ → Outs
+  abbrev pub left : ℕ → ℕ → ℕ → Option ℕ
   left k at m = outs_of fs k at (actions_from false m at b)
 
-  pub left_none : (k at : ℕ) → left k at 0 ≡ Open at
+  pub left_none : (k at : ℕ) → left k at 0 ≡ Some at
   unfolding actions_from read_many outs_of open_from
-  left_none k at = ap Open (omega arith)
+  left_none k at = ap Some (omega arith)
 
   -- m actions are there from an offset on
   module _ (m at : ℕ) (h : 0 < m) (r : is_read (actions_from false m at b) ≡ true) where
-    first : is_read (read_action (action_codes false) (drop at b)) ≡ true
-    unfolding actions_from
-    first = first_read (read_action (action_codes false)) b m at h r
-
-    pub first_there : is_read (read_action any_code (drop at b)) ≡ true
-    first_there = action_there (action_codes false) b at first
-
     -- the first ends there
     module _ (end : ℕ) (g : end ≡ skip_to at (read_action any_code (drop at b))) where
-      e : end_from at (read_action (action_codes false) (drop at b)) ≡ Bytes end
-      e = action_skip (action_codes false) b at first end g
+      e : end_from at (read_action (action_codes false) (drop at b)) ≡ Some end
+      e = action_next false b m at h r end g
 
       pub rest_there : is_read (actions_from false (m - 1) end b) ≡ true
       unfolding actions_from
@@ -118,7 +108,7 @@ module _ (fs b : List ℕ) where
 
       -- it is of code c, and f is its output's flag
       module _ (k c f : ℕ) (ec : c ≡ get_or b at 0) (ef : f ≡ get_or fs k 0) where
-        left_is : left k at m ≡ cond (not (not (eqb c 0) && eqb f 1)) (left (k + 1) end (m - 1)) Shut
+        left_is : left k at m ≡ cond (not (not (eqb c 0) && eqb f 1)) (left (k + 1) end (m - 1)) None
         unfolding actions_from
         left_is =
             let x = found (read_action (action_codes false) (drop at b)) at end e in
@@ -129,7 +119,7 @@ module _ (fs b : List ℕ) where
             ∙ one_more fs k at x.size end x.thing _ x.ends
             ∙ rw (w, ef)
 
-        pub left_shut : (not (eqb c 0) && eqb f 1) ≡ true → Shut ≡ left k at m
+        pub left_shut : (not (eqb c 0) && eqb f 1) ≡ true → None ≡ left k at m
         left_shut t = sym (left_is ∙ rw t)
 
         pub left_more : (not (eqb c 0) && eqb f 1) ≡ false → left k at m ≡ left (k + 1) end (m - 1)
