@@ -30,7 +30,9 @@ use Rattle.types.specs.Scopes.{scope_in, placed, typed_at}
 use Rattle.types.proofs.Judging.{Typeds, typed_built, typeds_at, type_drop}
 use Rattle.evaluation.specs.declared.Evaluated.{Evaluated}
 use Rattle.evaluation.specs.declared.Evaluated.TheVariants as evaluated
-use Rattle.evaluation.specs.Envs.{env_in, EnvFits, outcome_at, valued_at, is_typed}
+use Rattle.evaluation.specs.declared.names.Env as code
+use Rattle.evaluation.specs.Envs.{outcome_at, valued_at, is_typed}
+use Rattle.evaluation.specs.Named.{named_by}
 use Rattle.evaluation.proofs.Sound.{sound}
 
 -- ── what an answer says of the expression there ──────────────────────────────────────────────
@@ -132,16 +134,14 @@ stored h = back (omega (arith, h.small))
 -- a call over these values, at an expression that has a type
 pub record Work : Type 0 where
   pub call : Call
-  pub vs : List ℤ
-  pub ts : List ℕ
-  pub ok : EnvFits vs ts
-  pub typed : is_typed (typed_at (scope_in ts) call.at (expression (drop call.at call.s))) ≡ true
+  pub names : code.Env
+  pub typed : is_typed (typed_at (scope_in names.types) call.at (expression (drop call.at call.s))) ≡ true
 
 abbrev scope : Work → Scope
-scope w = scope_in w.ts
+scope w = scope_in w.names.types
 
 abbrev env : Work → Env
-env w = env_in w.vs w.ts
+env w = named_by w.names
 
 abbrev read_at : Work → ℕ → Read Exp
 read_at w i = expression (drop i w.call.s)
@@ -164,7 +164,7 @@ answer w es q e = rw ((all w.call).read, q) (ap (outcome_at (end w.call)) e)
 pub record Operand (w : Work) (done : List Exp) (k at : ℕ) : Type 0 where
   pub next : Next w.call done k at
   pub ty : Ty
-  pub typed : type_of (scope_in w.ts) next.e ≡ typed ty
+  pub typed : type_of (scope_in w.names.types) next.e ≡ typed ty
 
 pub operand : (w : Work) {done : List Exp} {k at : ℕ} → Reached w.call done k at → 0 < k → Operand w done k at
 operand w {done} r l =
@@ -180,14 +180,14 @@ module _ {w : Work} {done : List Exp} {k at : ℕ} (o : Operand w done k at) whe
   abbrev its : Exp
   its = o.next.e
 
-  -- what working it out asks: less depth than t, an offset inside, the limits, a type, the values
+  -- what working it out asks: less depth than t, an offset inside, the limits, a type
   pub asked :
       {t : ℕ} → w.call.depth ≡ t →
       (w.call.depth - 1 < t)
-      × ((at ≤ length w.call.s) × ((fits_at (w.call.depth - 1) (read_at w at) ≡ true) × ((is_typed (typed_at (scope w) at (read_at w at)) ≡ true) × EnvFits w.vs w.ts)))
+      × ((at ≤ length w.call.s) × ((fits_at (w.call.depth - 1) (read_at w at) ≡ true) × (is_typed (typed_at (scope w) at (read_at w at)) ≡ true)))
   asked e =
       let y = is_typed_lem (scope w) at (read_at w at) o.next.read o.typed in
-      (omega (arith, e, deep w.call), (o.next.inside, (o.next.fits, (y, w.ok))))
+      (omega (arith, e, deep w.call), (o.next.inside, (o.next.fits, y)))
 
   pub is_there : is_read (read_at w at) ≡ true
   unfolding is_read
@@ -207,7 +207,7 @@ module _ {w : Work} {done : List Exp} {k at : ℕ} (o : Operand w done k at) whe
     unfolding fits_at shallow Sound
     small =
         let f : shallow (w.call.depth - 1) its ≡ true = rw o.next.read at o.next.fits in
-        let g : Sound (value_of (env w) its) = sound w.vs w.ts w.ok its o.ty (and_right (leb (depth_of its) (w.call.depth - 1)) (precise its) f) o.typed in
+        let g : Sound (value_of (env w) its) = sound w.names.vals w.names.types w.names.fits its o.ty (and_right (leb (depth_of its) (w.call.depth - 1)) (precise its) f) o.typed in
         rw worked at g
 
 -- ── the first operand ────────────────────────────────────────────────────────────────────────
@@ -215,7 +215,7 @@ module _ {w : Work} {done : List Exp} {k at : ℕ} (o : Operand w done k at) whe
 -- the first operand's value is z, of type t, and it ends at n
 pub record First (w : Work) (t : Ty) (z : ℤ) (n : ℕ) : Type 0 where
   pub e : Exp
-  pub value : value_of (env_in w.vs w.ts) e ≡ Value t z
+  pub value : value_of (named_by w.names) e ≡ Value t z
   pub small : Small t z
   pub reached : Reached w.call (e ∷ []) (w.call.k - 1) n
 

@@ -1,2 +1,3 @@
 -- What the contracts of evaluation cite beside the model.
 pub mod Envs
+pub mod Named

@@ -7,9 +7,14 @@ ghost use Rattle.model.specs.Values.{wrap, eq_z, apply, apply_one};
 ghost use Rattle.model.specs.Expressions.{expression, operands, head_fits};
 ghost use Rattle.expressions.specs.Reading.{is_read, skip_to, fits_at, limits_read};
 ghost use Rattle.types.specs.Scopes.{scope_in, typed_at};
-ghost use Rattle.evaluation.specs.Envs.{env_in, EnvFits, outcome_at, valued_at, is_typed};
+ghost use Rattle.evaluation.specs.Envs.{outcome_at, valued_at, is_typed};
+ghost use Rattle.evaluation.specs.Named.{named_by};
 
 use model::{Outcome, Ty};
+
+mod names;
+
+pub use names::Env;
 
 // A value with its type and the offset after the expression, or a fault with its number.
 #[derive(Clone, Copy)]
@@ -36,23 +41,22 @@ pub fn number_at(vs: &[i64], i: usize) -> i64
 }
 
 // The value of input i (from 0) or of variable i (from 4); 0 from 4 on.
-fn kept(vals: &[i64; 8], from: usize, i: u8) -> i64
+fn kept(env: &Env, from: usize, i: u8) -> i64
     requires { from ≤ 4 }
-    ensures { result ≡ cond (ltb i 4) (get_or vals.now (from + i) (pos 0)) (pos 0) }
+    ensures { result ≡ cond (ltb i 4) (get_or env.now.vals (from + i) (pos 0)) (pos 0) }
 {
     if i < 4 {
-        let vs: &[i64] = vals;
-        return number_at(vs, from + octets::wide(i));
+        return number_at(&env.vals, from + usize::from(i));
     }
     0
 }
 
 // A literal's own value; a matched value and a variable from the values.
-fn leaf_value(s: &[u8], at: usize, vals: &[i64; 8], types: &[u8; 16]) -> Evaluated
+fn leaf_value(s: &[u8], at: usize, env: &Env) -> Evaluated
     requires at_in_bounds { at ≤ length s.now }
     requires s_value { head_fits (drop at s.now) ≡ true }
     requires at_value { operands (get_or s.now at 0) ≡ 0 }
-    ensures { result ≡ valued_at (env_in vals.now types.now) at (expression (drop at s.now)) }
+    ensures { result ≡ valued_at (named_by env.now) at (expression (drop at s.now)) }
 {
     let c = octets::byte_at(s, at);
     if c == 0 {
@@ -66,16 +70,16 @@ fn leaf_value(s: &[u8], at: usize, vals: &[i64; 8], types: &[u8; 16]) -> Evaluat
     }
     let i = octets::byte_at(s, at + 1);
     if c == 1 {
-        let t = types::named(types, 0, i);
-        let z = kept(vals, 0, i);
+        let t = types::named(&env.types, 0, i);
+        let z = kept(env, 0, i);
         return Evaluated::Value {
             ty: t,
             value: z,
             next: at + 2,
         };
     }
-    let t = types::named(types, 8, i);
-    let z = kept(vals, 4, i);
+    let t = types::named(&env.types, 8, i);
+    let z = kept(env, 4, i);
     Evaluated::Value {
         ty: t,
         value: z,
@@ -131,20 +135,19 @@ fn if_end(s: &[u8], x: i64, at: usize) -> usize
 }
 
 // The value of the expression at an offset, of a depth that is at most `depth`.
-fn value_at(s: &[u8], at: usize, depth: usize, vals: &[i64; 8], types: &[u8; 16]) -> Evaluated
+fn value_at(s: &[u8], at: usize, depth: usize, env: &Env) -> Evaluated
     requires at_in_bounds { at ≤ length s.now }
     requires s_value { fits_at depth (expression (drop at s.now)) ≡ true }
-    requires s_value_2 { is_typed (typed_at (scope_in types.now) at (expression (drop at s.now))) ≡ true }
-    requires env_fits { EnvFits vals.now types.now }
-    ensures { result ≡ valued_at (env_in vals.now types.now) at (expression (drop at s.now)) }
+    requires s_value_2 { is_typed (typed_at (scope_in env.now.types) at (expression (drop at s.now))) ≡ true }
+    ensures { result ≡ valued_at (named_by env.now) at (expression (drop at s.now)) }
 {
     let c = octets::byte_at(s, at);
     let k = expressions::operands(c);
     if k == 0 {
-        return leaf_value(s, at, vals, types);
+        return leaf_value(s, at, env);
     }
     let here = at + expressions::head_size(c);
-    let a = value_at(s, here, depth - 1, vals, types);
+    let a = value_at(s, here, depth - 1, env);
     let Evaluated::Value {
         ty: t,
         value: x,
@@ -157,7 +160,7 @@ fn value_at(s: &[u8], at: usize, depth: usize, vals: &[i64; 8], types: &[u8; 16]
         return one_value(c, expressions::type_at(s, at + 1), t, x, n);
     }
     let from = second_from(s, k, x, n);
-    let b = value_at(s, from, depth - 1, vals, types);
+    let b = value_at(s, from, depth - 1, env);
     let Evaluated::Value {
         ty: u,
         value: y,
@@ -178,11 +181,10 @@ fn value_at(s: &[u8], at: usize, depth: usize, vals: &[i64; 8], types: &[u8; 16]
 }
 
 // The value of an expression that keeps the limits and has a type.
-pub fn value_of(s: &[u8], vals: &[i64; 8], types: &[u8; 16]) -> Evaluated
+pub fn value_of(s: &[u8], env: &Env) -> Evaluated
     requires s_value { limits_read (expression s.now) ≡ true }
-    requires s_value_2 { is_typed (typed_at (scope_in types.now) 0 (expression s.now)) ≡ true }
-    requires env_fits { EnvFits vals.now types.now }
-    ensures { result ≡ valued_at (env_in vals.now types.now) 0 (expression s.now) }
+    requires s_value_2 { is_typed (typed_at (scope_in env.now.types) 0 (expression s.now)) ≡ true }
+    ensures { result ≡ valued_at (named_by env.now) 0 (expression s.now) }
 {
-    value_at(s, 0, 16, vals, types)
+    value_at(s, 0, 16, env)
 }
