@@ -7,11 +7,11 @@ ghost use Rattle.model.specs.Cycles.{or_zero, result as result_of, new_var};
 ghost use Rattle.expressions.specs.Reading.{limits_read};
 ghost use Rattle.types.specs.Scopes.{scope_in};
 ghost use Rattle.rules.specs.Bodies.{actions_from, sent_limits, limits_of};
-ghost use Rattle.evaluation.specs.Envs.{env_in, EnvFits};
+ghost use Rattle.evaluation.specs.Named.{named_by};
 ghost use Rattle.typing.specs.Fits.{exp_read, list_read, action_at};
 ghost use Rattle.actions.specs.Acts.{has_type, sent_typed, all_typed, sent_as, fault_of, faults_of};
 
-use evaluation::Evaluated;
+use evaluation::{Env, Evaluated};
 use model::{Outcome, Token};
 
 // What an action sends.
@@ -29,51 +29,48 @@ pub enum Faults {
 }
 
 // The value of the expression at an offset.
-pub fn value(b: &[u8], at: usize, vals: &[i64; 8], types: &[u8; 16]) -> Outcome
+pub fn value(b: &[u8], at: usize, env: &Env) -> Outcome
     requires b_value { limits_read (expression (drop at b.now)) ≡ true }
-    requires b_value_2 { has_type (scope_in types.now) (exp_read (expression (drop at b.now))) ≡ true }
-    requires env_fits { EnvFits vals.now types.now }
-    ensures { result ≡ value_of (env_in vals.now types.now) (exp_read (expression (drop at b.now))) }
+    requires b_value_2 { has_type (scope_in env.now.types) (exp_read (expression (drop at b.now))) ≡ true }
+    ensures { result ≡ value_of (named_by env.now) (exp_read (expression (drop at b.now))) }
 {
-    match evaluation::value_of(&b[at..], vals, types) {
+    match evaluation::value_of(&b[at..], env) {
         Evaluated::Value { ty, value, next: _ } => Outcome::Value { ty, value },
         Evaluated::Fault { number } => Outcome::Fault { number },
     }
 }
 
 // The value of the expression at an offset, 0 where it faults.
-fn number(b: &[u8], at: usize, vals: &[i64; 8], types: &[u8; 16]) -> i64
+fn number(b: &[u8], at: usize, env: &Env) -> i64
     requires b_value { limits_read (expression (drop at b.now)) ≡ true }
-    requires b_value_2 { has_type (scope_in types.now) (exp_read (expression (drop at b.now))) ≡ true }
-    requires env_fits { EnvFits vals.now types.now }
-    ensures { result ≡ or_zero (value_of (env_in vals.now types.now) (exp_read (expression (drop at b.now)))) }
+    requires b_value_2 { has_type (scope_in env.now.types) (exp_read (expression (drop at b.now))) ≡ true }
+    ensures { result ≡ or_zero (value_of (named_by env.now) (exp_read (expression (drop at b.now)))) }
 {
-    match value(b, at, vals, types) {
+    match value(b, at, env) {
         Outcome::Value { ty: _, value: z } => z,
         Outcome::Fault { number: _ } => 0,
     }
 }
 
 // What the action at an offset sends.
-pub fn sent(b: &[u8], at: usize, vals: &[i64; 8], types: &[u8; 16]) -> Sending
+pub fn sent(b: &[u8], at: usize, env: &Env) -> Sending
     requires at_in_bounds { at < length b.now }
     requires b_value { sent_limits (drop at b.now) ≡ true }
-    requires b_value_2 { sent_typed (scope_in types.now) (action_at (drop at b.now)) ≡ true }
-    requires env_fits { EnvFits vals.now types.now }
-    ensures { result ≡ sent_as (result_of (env_in vals.now types.now) (action_at (drop at b.now))) }
+    requires b_value_2 { sent_typed (scope_in env.now.types) (action_at (drop at b.now)) ≡ true }
+    ensures { result ≡ sent_as (result_of (named_by env.now) (action_at (drop at b.now))) }
 {
     let c = octets::byte_at(b, at);
     if c == 0 {
         return Sending::Nothing;
     }
     if c == 1 {
-        let z = number(b, at + 1, vals, types);
+        let z = number(b, at + 1, env);
         return Sending::Token {
             token: Token { tag: 0, value: z },
         };
     }
     if c == 5 {
-        let z = number(b, at + 1, vals, types);
+        let z = number(b, at + 1, env);
         return Sending::Token {
             token: Token { tag: 3, value: z },
         };
@@ -87,63 +84,51 @@ pub fn sent(b: &[u8], at: usize, vals: &[i64; 8], types: &[u8; 16]) -> Sending
 }
 
 // What the action at an offset leaves in a variable.
-pub fn kept_value(b: &[u8], at: usize, old: i64, vals: &[i64; 8], types: &[u8; 16]) -> i64
+pub fn kept_value(b: &[u8], at: usize, old: i64, env: &Env) -> i64
     requires at_in_bounds { at < length b.now }
     requires b_value { sent_limits (drop at b.now) ≡ true }
-    requires b_value_2 { sent_typed (scope_in types.now) (action_at (drop at b.now)) ≡ true }
-    requires env_fits { EnvFits vals.now types.now }
-    ensures { result ≡ new_var (env_in vals.now types.now) old (action_at (drop at b.now)) }
+    requires b_value_2 { sent_typed (scope_in env.now.types) (action_at (drop at b.now)) ≡ true }
+    ensures { result ≡ new_var (named_by env.now) old (action_at (drop at b.now)) }
 {
     let c = octets::byte_at(b, at);
     if !rules::holds_expression(c) {
         return old;
     }
-    number(b, at + 1, vals, types)
+    number(b, at + 1, env)
 }
 
 // The fault of the action at an offset.
-fn action_fault(b: &[u8], at: usize, vals: &[i64; 8], types: &[u8; 16]) -> Faults
+fn action_fault(b: &[u8], at: usize, env: &Env) -> Faults
     requires at_in_bounds { at < length b.now }
     requires b_value { sent_limits (drop at b.now) ≡ true }
-    requires b_value_2 { sent_typed (scope_in types.now) (action_at (drop at b.now)) ≡ true }
-    requires env_fits { EnvFits vals.now types.now }
-    ensures { result ≡ fault_of (env_in vals.now types.now) (action_at (drop at b.now)) }
+    requires b_value_2 { sent_typed (scope_in env.now.types) (action_at (drop at b.now)) ≡ true }
+    ensures { result ≡ fault_of (named_by env.now) (action_at (drop at b.now)) }
 {
     let c = octets::byte_at(b, at);
     if !rules::holds_expression(c) {
         return Faults::Clear;
     }
-    match value(b, at + 1, vals, types) {
+    match value(b, at + 1, env) {
         Outcome::Value { ty: _, value: _ } => Faults::Clear,
         Outcome::Fault { number } => Faults::Fault { number },
     }
 }
 
 // The first fault among n actions from an offset on.
-pub fn actions_fault(
-    b: &[u8],
-    from: usize,
-    n: usize,
-    vals: &[i64; 8],
-    types: &[u8; 16],
-    var: bool,
-) -> Faults
+pub fn actions_fault(b: &[u8], from: usize, n: usize, env: &Env, var: bool) -> Faults
     requires n_bound { n ≤ 4 }
     requires b_value { limits_of (actions_from var n from b.now) ≡ true }
-    requires b_value_2 { all_typed (scope_in types.now) (list_read (actions_from var n from b.now)) ≡ true }
-    requires env_fits { EnvFits vals.now types.now }
-    ensures { result ≡ faults_of (env_in vals.now types.now) (list_read (actions_from var n from b.now)) }
+    requires b_value_2 { all_typed (scope_in env.now.types) (list_read (actions_from var n from b.now)) ≡ true }
+    ensures { result ≡ faults_of (named_by env.now) (list_read (actions_from var n from b.now)) }
 {
     let mut at = from;
-    let mut k = 0;
-    while k < n {
+    for _action in 0..n {
         let next = rules::skip_action(b, at);
-        let f = action_fault(b, at, vals, types);
+        let f = action_fault(b, at, env);
         let Faults::Clear = f else {
             return f;
         };
         at = next;
-        k += 1;
     }
     Faults::Clear
 }

@@ -43,7 +43,7 @@ pub record Opened (en : Env) (full : List ℕ) (r : Rule) (from y : ℕ) : Type 
   pub sets : y ≡ from
   pub judgement : judge_of en full r 0 ≡ guarded en r 0 (value_of en r.guard)
 
-module _ (a : Arity) (b : List ℕ) (vals : List ℤ) (types : List ℕ) (w : Workable a b vals types) where
+module _ (a : Arity) (b : List ℕ) (types : List ℕ) (w : Workable a b types) where
   abbrev p : Parts
   p = w.parts
 

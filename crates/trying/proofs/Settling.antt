@@ -1,15 +1,15 @@
 -- A rule's values and types in the tables of the code, and as its box sees them.
 -- Assumes nothing.
-use mathlib.Core.Path.{◌≡◌, refl, sym, ap, ◌∙◌, subst}
-use mathlib.Core.Bool.{true, false}
+use mathlib.Core.Path.{◌≡◌, refl, ap, ◌∙◌, subst}
+use mathlib.Core.Bool.{false}
 use mathlib.Core.List.{List, []}
 use Prim.Native.Nat.{ℕ, ◌≤◌, ◌^◌}
 use lib.IntN.{ℤ, pos}
 use lib.ListN.{get_or}
 use lib.Signed.{mag}
-use Rattle.model.specs.Expressions.{Scope, Env, value_of}
+use Rattle.model.specs.Expressions.{Env}
 use Rattle.model.specs.Rules.{Rule, Pattern, rule_read, read_rule, matched_types, scope_of}
-use Rattle.model.specs.Cycles.{Mark, attempt, guarded}
+use Rattle.model.specs.Cycles.{attempt}
 use Rattle.types.specs.Scopes.{scope_in}
 use Rattle.shapes.specs.declared.Arity.{Arity}
 use Rattle.shapes.specs.Shapes.{types_in}
@@ -22,7 +22,7 @@ use Rattle.actions.proofs.Worked.{Alike, Judged, judged_same, guarded-same}
 use Rattle.actions.proofs.Precise.{env_fits}
 use Rattle.trying.specs.declared.Judgement.{Judgement}
 use Rattle.trying.specs.Views.{view_env, judge_of}
-use Rattle.trying.specs.Working.{Workable, AtGuard, Ruled, Settled, judged_as}
+use Rattle.trying.specs.Working.{AtGuard, Ruled, judged_as}
 
 -- alike environments judge a rule alike
 pub judge_same : (en en' : Env) → Alike en en' → (full : List ℕ) (r : Rule) → Judged en.scope r → (k : ℕ) → judge_of en full r k ≡ judge_of en' full r k
@@ -48,9 +48,9 @@ module _ (a : Arity) (ins vars b : List ℕ) (w : Ruled a ins vars b) where
         env_fits (record { ins = types_in ins a.ins; outs = []; vars = types_in vars a.vars }) r vals types w.good_ins w.good_vars
         (subst (λ (ps : List Pattern). Agree (scope_in types) (record { ins = matched_types (types_in ins a.ins) ps; vars = types_in vars a.vars })) ins_is h) small
 
-    pub at_guard : (at : ℕ) (vals : List ℤ) → at ≡ w.parts.guard → ((i : ℕ) → mag (get_or vals i (pos 0)) ≤ 2 ^ 31) → AtGuard a b at vals types
-    at_guard at vals e small = record {
-      work = record { parts = w.parts; outs = w.few_outs; vars = w.few_vars; laid = w.laid; kept = w.kept; judged = judged_in; env = fits_in_lem vals small };
+    pub at_guard : (at : ℕ) → at ≡ w.parts.guard → AtGuard a b at types
+    at_guard at e = record {
+      work = record { parts = w.parts; outs = w.few_outs; vars = w.few_vars; laid = w.laid; kept = w.kept; judged = judged_in };
       guard = e;
     }
 

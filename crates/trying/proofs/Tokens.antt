@@ -1,13 +1,12 @@
 -- The token that a pattern is held against.
 -- Assumes nothing.
-use mathlib.Core.Path.{◌≡◌, refl, sym, ap, ap₂, ◌∙◌}
-use mathlib.Core.Bool.{Bool, true, false}
+use mathlib.Core.Path.{◌≡◌, ◌∙◌}
+use mathlib.Core.Bool.{Bool}
 use mathlib.Core.List.{List}
 use Prim.Native.Nat.{ℕ, ◌+◌, ◌-◌, ◌≤◌, ◌<◌}
 use lib.IntN.{ℤ, pos}
 use lib.ListN.{get_or}
 use borrow.Author.Tests.{lt-ltb, le-ltb}
-use Rattle.model.specs.declared.Token.{Token}
 use Rattle.model.specs.Rules.{Pattern}
 use Rattle.model.specs.Cycles.{matches}
 use Rattle.trying.specs.Views.{token_of}

@@ -17,29 +17,27 @@ use Rattle.rules.specs.declared.Parts.{Parts}
 use Rattle.rules.specs.Bodies.{patterns_from}
 use Rattle.rules.proofs.Laying.{Laid}
 use Rattle.typing.specs.Fits.{Kept, scope_read}
-use Rattle.evaluation.specs.Envs.{EnvFits}
 use Rattle.actions.proofs.Worked.{Judged}
 use Rattle.trying.specs.declared.Judgement.{Judgement}
 use Rattle.trying.specs.declared.Judgement.TheVariants as judgement
 
--- its parts lie there and keep the limits, its expressions have a type, and so have the values that they name
-pub record Workable (a : Arity) (b : List ℕ) (vals : List ℤ) (types : List ℕ) : Type 0 where
+-- its parts lie there and keep the limits, and its expressions have a type where these are the types that they name
+pub record Workable (a : Arity) (b : List ℕ) (types : List ℕ) : Type 0 where
   pub parts : Parts
   pub outs : a.outs ≤ 4
   pub vars : a.vars ≤ 4
   pub laid : Laid a b parts
   pub kept : Kept a parts b
   pub judged : Judged (scope_in types) (rule_read (read_rule a.ins a.outs a.vars b))
-  pub env : EnvFits vals types
 
 -- the guard begins at an offset
-pub record AtGuard (a : Arity) (b : List ℕ) (at : ℕ) (vals : List ℤ) (types : List ℕ) : Type 0 where
-  pub work : Workable a b vals types
+pub record AtGuard (a : Arity) (b : List ℕ) (at : ℕ) (types : List ℕ) : Type 0 where
+  pub work : Workable a b types
   pub guard : at ≡ work.parts.guard
 
 -- the output actions and the variable actions begin at two offsets
-pub record AtActions (a : Arity) (b : List ℕ) (from next : ℕ) (vals : List ℤ) (types : List ℕ) : Type 0 where
-  pub work : Workable a b vals types
+pub record AtActions (a : Arity) (b : List ℕ) (from next : ℕ) (types : List ℕ) : Type 0 where
+  pub work : Workable a b types
   pub outs : from ≡ work.parts.outs
   pub sets : next ≡ work.parts.sets
 

@@ -7,7 +7,7 @@ ghost use Rattle.model.specs.Values.{is_true};
 ghost use Rattle.model.specs.Rules.{pattern_of, rule_read, read_rule};
 ghost use Rattle.model.specs.NetworkFile.{body_at, rule_at};
 ghost use Rattle.model.specs.Cycles.{matches, chosen as chosen_of, first, up_from};
-ghost use Rattle.evaluation.specs.Envs.{env_in};
+ghost use Rattle.evaluation.specs.Named.{named_by};
 ghost use Rattle.table.specs.Table.{index_in};
 ghost use Rattle.shapes.specs.Shapes.{types_in};
 ghost use Rattle.rules.specs.Bodies.{layout_of, Parted, outs_at};
@@ -15,6 +15,7 @@ ghost use Rattle.trying.specs.Views.{token_of, view_env, judge_of, try_on, mark_
 ghost use Rattle.trying.specs.Working.{AtGuard, AtActions, Settled, Rules, Smalls, judged_as};
 
 use actions::Faults;
+use evaluation::Env;
 use matching::Outs;
 use model::{Outcome, ProcessId, RuleId};
 use shapes::Arity;
@@ -64,22 +65,15 @@ fn is_true(z: i64) -> bool
 }
 
 // A rule whose guard is true: its actions are worked out for faults, those of outputs first.
-fn chosen(
-    b: &[u8],
-    outs: usize,
-    sets: usize,
-    a: Arity,
-    vals: &[i64; 8],
-    types: &[u8; 16],
-) -> Judgement
-    requires { AtActions a b.now outs sets vals.now types.now }
-    ensures { result ≡ judged_as (chosen_of (env_in vals.now types.now) (rule_read (read_rule a.ins a.outs a.vars b.now)) 0) }
+fn chosen(b: &[u8], outs: usize, sets: usize, a: Arity, env: &Env) -> Judgement
+    requires { AtActions a b.now outs sets env.now.types }
+    ensures { result ≡ judged_as (chosen_of (named_by env.now) (rule_read (read_rule a.ins a.outs a.vars b.now)) 0) }
 {
-    let f = actions::actions_fault(b, outs, a.outs, vals, types, false);
+    let f = actions::actions_fault(b, outs, a.outs, env, false);
     if let Faults::Fault { number } = f {
         return Judgement::Faulty { number };
     }
-    let g = actions::actions_fault(b, sets, a.vars, vals, types, true);
+    let g = actions::actions_fault(b, sets, a.vars, env, true);
     if let Faults::Fault { number } = g {
         return Judgement::Faulty { number };
     }
@@ -87,21 +81,21 @@ fn chosen(
 }
 
 // A rule whose patterns are ready, from its guard on: the outputs that it writes, and only then the guard, and then the actions.
-fn judge(b: &[u8], at: usize, a: Arity, full: &[u8], vals: &[i64; 8], types: &[u8; 16]) -> Judgement
-    requires { AtGuard a b.now at vals.now types.now }
-    ensures { result ≡ judged_as (judge_of (env_in vals.now types.now) full.now (rule_read (read_rule a.ins a.outs a.vars b.now)) 0) }
+fn judge(b: &[u8], at: usize, a: Arity, full: &[u8], env: &Env) -> Judgement
+    requires { AtGuard a b.now at env.now.types }
+    ensures { result ≡ judged_as (judge_of (named_by env.now) full.now (rule_read (read_rule a.ins a.outs a.vars b.now)) 0) }
 {
     let outs = expressions::skip(b, at);
     let Outs::Open { next: sets } = matching::outs_open(b, outs, a.outs, full) else {
         return Judgement::Quiet;
     };
-    match actions::value(b, at, vals, types) {
+    match actions::value(b, at, env) {
         Outcome::Fault { number } => Judgement::Faulty { number },
         Outcome::Value { ty: _, value } => {
             if !is_true(value) {
                 return Judgement::Quiet;
             }
-            chosen(b, outs, sets, a, vals, types)
+            chosen(b, outs, sets, a, env)
         }
     }
 }
@@ -119,8 +113,11 @@ fn settle(
     requires { Settled a ins.now vars.now b.now at vals.now }
     ensures { result ≡ judged_as (judge_of (view_env (types_in ins.now a.ins) (types_in vars.now a.vars) vals.now (rule_read (read_rule a.ins a.outs a.vars b.now))) full.now (rule_read (read_rule a.ins a.outs a.vars b.now)) 0) }
 {
-    let types = typing::scope(b, ins, vars, a);
-    judge(b, at, a, full, vals, &types)
+    let env = Env {
+        types: typing::scope(b, ins, vars, a),
+        vals: *vals,
+    };
+    judge(b, at, a, full, &env)
 }
 
 // Where the output actions begin in the body of a rule, which has its parts: behind the patterns and the guard.

@@ -2,13 +2,11 @@ use mathlib.Core.Path.{◌≡◌, refl, sym, ap, ◌∙◌}
 use mathlib.Core.List.{List}
 use Prim.Native.Nat.{ℕ, ◌+◌, ◌≤◌, ◌<◌}
 use native.Mathlib.Omega.{arith}
-use borrow.Author.Rules.{rules}
-use Rattle.model.specs.Rules.{rule_read, read_rule}
 use Rattle.model.specs.Bytes.{stretch, two_at}
 use Rattle.model.specs.NetworkFile.{Index, body_at, rule_at}
 use Rattle.model.specs.Cycles.{Mark, quiet, fires, faulty, first, up_from}
 use Rattle.shapes.specs.declared.Arity.{Arity}
-use Rattle.trying.specs.Views.{try_on, mark_as}
+use Rattle.trying.specs.Views.{mark_as}
 use Rattle.trying.specs.Working.{Ruled}
 use Rattle.trying.proofs.Searching.{from, ended, size_small, first_quiet, first_fires, first_faulty, first_none, before_first, stands_here, not_ready, one_ready, guard_here, trial_quiet, trial_fires, trial_faulty}
 use Rattle.trying.proofs.search.Goals as goal
