@@ -126,12 +126,9 @@ pub fn actions_at(b: &[u8], a: Arity) -> usize
     requires parted { Parted a b.now }
     ensures { result ≡ outs_at (layout_of a b.now) }
 {
-    let mut at: usize = 0;
-    let mut j: usize = 0;
-    while j < a.ins + a.vars {
-        let size = rules::pattern_size(octets::byte_at(b, at));
-        at += size;
-        j += 1;
+    let mut at = 0;
+    for _pattern in 0..a.ins + a.vars {
+        at += rules::pattern_size(octets::byte_at(b, at));
     }
     expressions::skip(b, at)
 }
