@@ -44,17 +44,12 @@ fn port_ready(b: &[u8], at: usize, j: usize, ins: usize, heads: &[u8], vals: &[i
     requires j_bound_2 { j < ins + 4 }
     ensures { result ≡ matches (pattern_of (get_or b.now at 0) (value_at b.now (at + 1))) (token_of ins heads.now vals.now j) }
 {
-    let vs: &[i64] = vals;
     if j < ins {
-        return matching::pattern_ready(
-            b,
-            at,
-            octets::byte_at(heads, j),
-            evaluation::number_at(vs, j),
-        );
+        let tag = octets::byte_at(heads, j);
+        return matching::pattern_ready(b, at, tag, evaluation::number_at(vals, j));
     }
     let k = 4 + (j - ins);
-    matching::pattern_ready(b, at, 0, evaluation::number_at(vs, k))
+    matching::pattern_ready(b, at, 0, evaluation::number_at(vals, k))
 }
 
 // A guard's value.
@@ -152,31 +147,27 @@ pub fn search(
     ensures { result ≡ mark_as (first (λ r. try_on (types_in ins.now a.ins) (types_in vars.now a.vars) heads.now full.now vals.now (rule_read (read_rule a.ins a.outs a.vars (body_at net.now (rule_at (index_in table.now c) k.0 r)))) r) (up_from 0 count)) }
 {
     let patterns = a.ins + a.vars;
-    let mut r: usize = 0;
-    let found = 'rules: loop {
-        if count <= r {
+    let mut untried = 0..count;
+    'rules: loop {
+        let Some(r) = untried.next() else {
             break Tried::Quiet;
-        }
+        };
         let body = lookup::rule_body(net, table, c, k, RuleId(r as u8));
-        let mut at: usize = 0;
-        let mut j: usize = 0;
-        while j < patterns {
+        let mut at = 0;
+        for j in 0..patterns {
             if !port_ready(body, at, j, a.ins, heads, vals) {
-                r += 1;
                 continue 'rules;
             }
-            let size = rules::pattern_size(octets::byte_at(body, at));
-            at += size;
-            j += 1;
+            at += rules::pattern_size(octets::byte_at(body, at));
         }
         match settle(body, at, a, ins, vars, full, vals) {
-            Judgement::Fires => break Tried::Fires {
-                rule: RuleId(r as u8),
-            },
+            Judgement::Fires => {
+                break Tried::Fires {
+                    rule: RuleId(r as u8),
+                };
+            }
             Judgement::Faulty { number } => break Tried::Faulty { number },
             Judgement::Quiet => {}
         }
-        r += 1;
-    };
-    found
+    }
 }
