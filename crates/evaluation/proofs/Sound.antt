@@ -11,9 +11,8 @@ use lib.ListN.{get_or}
 use lib.Signed.{mag}
 use borrow.Author.Tests.{leb-true}
 use Rattle.model.specs.declared.Ty.{Ty}
-use Rattle.model.specs.declared.Outcome.{Outcome}
-use Rattle.model.specs.declared.Outcome.TheVariants.{Value, Fault}
-use Rattle.model.specs.Values.{is_plain, in_precision, within, no_type, is_true}
+use Rattle.std.specs.Prelude.{Ok, Err}
+use Rattle.model.specs.Values.{Outcome, is_plain, in_precision, within, no_type, is_true}
 use Rattle.model.specs.Expressions.{Exp, literal, matched, variable, cast, one, two, if, precise, typed, judged, type_of, then, value_of}
 use Rattle.model.proofs.Tests.{and_left, and_right}
 use Rattle.model.proofs.Wrapping.{within_mag, pow_30}
@@ -33,8 +32,8 @@ precision t e = (leb-true 1 t.p (and_left (leb 1 t.p) (leb t.p 30) e), leb-true 
 
 sound_then : (x : Outcome) (f : Ty → ℤ → Outcome) → Sound x → ((t : Ty) (a : ℤ) → Small t a → Sound (f t a)) → Sound (then x f)
 unfolding Sound then
-sound_then (Value t a) f h g = g t a h
-sound_then (Fault n) f h g = tt
+sound_then (Ok v) f h g = g v.ty v.value h
+sound_then (Err x) f h g = tt
 
 module _ (vs : List ℤ) (ts : List ℕ) (ok : EnvFits vs ts) where
   ins_small : (i : ℕ) → mag (get_or (env_in vs ts).ins i (pos 0)) ≤ 2 ^ 31

@@ -13,9 +13,9 @@ use mir.Syntax.{w64}
 use mir.Val.{to_z, of_z}
 use borrow.Author.Tests.{eqb-true, eqb-false, eq-eqb, ne_eqb}
 use Rattle.model.specs.declared.Ty.{Ty}
-use Rattle.model.specs.declared.Outcome.{Outcome}
-use Rattle.model.specs.declared.Outcome.TheVariants.{Value, Fault}
-use Rattle.model.specs.Values.{wrap, eq_z, is_true, apply, apply_one}
+use Rattle.std.specs.Prelude.{Result, Ok, Err}
+use Rattle.model.specs.declared.Fault.{Fault}
+use Rattle.model.specs.Values.{Outcome, gives, wrap, eq_z, is_true, apply, apply_one}
 use Rattle.model.specs.Expressions.{Exp, Read, got, operands, type_at, build, expression, depth_of, precise, Scope, Typed, typed, ill, type_of, Env, then, value_of}
 use Rattle.model.proofs.Tests.{and_right}
 use Rattle.values.proofs.Machine.{back}
@@ -28,8 +28,7 @@ use Rattle.expressions.proofs.Turns as turns
 use Rattle.expressions.proofs.Turns.{Call, two_or_three, Reached, Next, there, all, end, count_all, next, last, deep}
 use Rattle.types.specs.Scopes.{scope_in, placed, typed_at}
 use Rattle.types.proofs.Judging.{Typeds, typed_built, typeds_at, type_drop}
-use Rattle.evaluation.specs.declared.Evaluated.{Evaluated}
-use Rattle.evaluation.specs.declared.Evaluated.TheVariants as evaluated
+use Rattle.evaluation.specs.declared.Valued.{Valued}
 use Rattle.evaluation.specs.declared.names.Env as code
 use Rattle.evaluation.specs.Envs.{outcome_at, valued_at, is_typed}
 use Rattle.evaluation.specs.Named.{named_by}
@@ -37,22 +36,28 @@ use Rattle.evaluation.proofs.Sound.{sound}
 
 -- ── what an answer says of the expression there ──────────────────────────────────────────────
 
-outcome_value : (m : ℕ) (o : Outcome) {u : Ty} {x : ℤ} {n : ℕ} → outcome_at m o ≡ evaluated.Value u x n → (o ≡ Value u x) × (m ≡ n)
-unfolding outcome_at
-outcome_value m (Value t z) e = (cc, cc)
-outcome_value m (Fault k) e = absurd (let z : ◌≡◌ {A = ℕ} 0 1 = cc in omega arith)
+-- a value with its type and the offset after it
+abbrev pub value_at : Ty → ℤ → ℕ → Result Valued Fault
+value_at t z n = Ok (record { ty = t; value = z; next = n })
 
-outcome_fault : (m : ℕ) (o : Outcome) {q : ℕ} → outcome_at m o ≡ evaluated.Fault q → o ≡ Fault q
+outcome_value : (m : ℕ) (o : Outcome) {u : Ty} {x : ℤ} {n : ℕ} → outcome_at m o ≡ value_at u x n → (o ≡ gives u x) × (m ≡ n)
 unfolding outcome_at
-outcome_fault m (Value t z) e = absurd (let z : ◌≡◌ {A = ℕ} 0 1 = cc in omega arith)
-outcome_fault m (Fault k) e = cc
+outcome_value m (Ok v) {u = u} {x = x} {n = n} e =
+    let q : ◌≡◌ {A = Valued} (record { ty = v.ty; value = v.value; next = m }) (record { ty = u; value = x; next = n }) = cc in
+    (ap (λ (w : Valued). gives w.ty w.value) q, ap (λ (w : Valued). w.next) q)
+outcome_value m (Err k) e = absurd (let z : ◌≡◌ {A = ℕ} 0 1 = cc in omega arith)
+
+outcome_fault : (m : ℕ) (o : Outcome) {q : Fault} → outcome_at m o ≡ Err q → o ≡ Err q
+unfolding outcome_at
+outcome_fault m (Ok v) e = absurd (let z : ◌≡◌ {A = ℕ} 0 1 = cc in omega arith)
+outcome_fault m (Err k) e = cc
 
 module _ (en : Env) (at : ℕ) (r : Read Exp) {e : Exp} {n : ℕ} (x : r ≡ got e n) where
-  value_there_lem : {u : Ty} {z : ℤ} {m : ℕ} → valued_at en at r ≡ evaluated.Value u z m → (value_of en e ≡ Value u z) × (at + n ≡ m)
+  value_there_lem : {u : Ty} {z : ℤ} {m : ℕ} → valued_at en at r ≡ value_at u z m → (value_of en e ≡ gives u z) × (at + n ≡ m)
   unfolding valued_at
   value_there_lem y = outcome_value (at + n) (value_of en e) (rw x at y)
 
-  fault_there : {q : ℕ} → valued_at en at r ≡ evaluated.Fault q → value_of en e ≡ Fault q
+  fault_there : {q : Fault} → valued_at en at r ≡ Err q → value_of en e ≡ Err q
   unfolding valued_at
   fault_there y = outcome_fault (at + n) (value_of en e) (rw x at y)
 
@@ -78,7 +83,7 @@ module _ (sc : Scope) (at : ℕ) (r : Read Exp) {e : Exp} {n : ℕ} (x : r ≡ g
 
 -- a cast, or not and lnot
 abbrev pub one_value : ℕ → Ty → Ty → ℤ → Outcome
-one_value c named t x = cond (eqb c 3) (Value named (wrap named x)) (apply_one c t x)
+one_value c named t x = cond (eqb c 3) (gives named (wrap named x)) (apply_one c t x)
 
 -- by the operator at a call
 module _ (en : Env) (call : Call) where
@@ -91,28 +96,28 @@ module _ (en : Env) (call : Call) where
   abbrev h : get_or u 0 0 ≡ c
   h = there call
 
-  one_by : (b : Bool) (e : Exp) {t : Ty} {x : ℤ} → eqb c 3 ≡ b → 3 ≤ c → c ≤ 5 → value_of en e ≡ Value t x → value_of en (build u (e ∷ [])) ≡ one_value c (type_at u 1) t x
+  one_by : (b : Bool) (e : Exp) {t : Ty} {x : ℤ} → eqb c 3 ≡ b → 3 ≤ c → c ≤ 5 → value_of en e ≡ gives t x → value_of en (build u (e ∷ [])) ≡ one_value c (type_at u 1) t x
   unfolding value_of then
   one_by true e b l m y = rw (build-cast u c h e (eqb-true c 3 b), y, b)
   one_by false e b l m y = rw (build_one u c h e (four_up c l (eqb-false c 3 b)) m, y, b)
 
-  value_one : (e : Exp) {t : Ty} {x : ℤ} → call.k ≡ 1 → value_of en e ≡ Value t x → value_of en (build u (e ∷ [])) ≡ one_value c (type_at u 1) t x
+  value_one : (e : Exp) {t : Ty} {x : ℤ} → call.k ≡ 1 → value_of en e ≡ gives t x → value_of en (build u (e ∷ [])) ≡ one_value c (type_at u 1) t x
   value_one e o y = let r = one_operand c (sym call.count ∙ o) in one_by (eqb c 3) e refl r.0 r.1 y
 
-  value_two : (e f : Exp) {t : Ty} {x : ℤ} → call.k ≡ 2 → value_of en e ≡ Value t x → value_of en (build u (e ∷ f ∷ [])) ≡ then (value_of en f) (λ v y. apply c t x y)
+  value_two : (e f : Exp) {t : Ty} {x : ℤ} → call.k ≡ 2 → value_of en e ≡ gives t x → value_of en (build u (e ∷ f ∷ [])) ≡ then (value_of en f) (λ v y. apply c t x y)
   unfolding value_of then
   value_two e f o y = let r = two_operands c (sym call.count ∙ o) in rw (build_two u c h e f r.0 r.1, y)
 
-  value_if : (e f g : Exp) {t : Ty} {x : ℤ} → call.k ≡ 3 → value_of en e ≡ Value t x → value_of en (build u (e ∷ f ∷ g ∷ [])) ≡ cond (not (eq_z x (pos 0))) (value_of en f) (value_of en g)
+  value_if : (e f g : Exp) {t : Ty} {x : ℤ} → call.k ≡ 3 → value_of en e ≡ gives t x → value_of en (build u (e ∷ f ∷ g ∷ [])) ≡ cond (not (eq_z x (pos 0))) (value_of en f) (value_of en g)
   unfolding value_of then is_true
   value_if e f g o y = rw (build-if u c h e f g (three_operands c (sym call.count ∙ o)), y)
 
-  cast_fault : (b : Bool) (e : Exp) {q : ℕ} → eqb c 3 ≡ b → 3 ≤ c → c ≤ 5 → value_of en e ≡ Fault q → value_of en (build u (e ∷ [])) ≡ Fault q
+  cast_fault : (b : Bool) (e : Exp) {q : Fault} → eqb c 3 ≡ b → 3 ≤ c → c ≤ 5 → value_of en e ≡ Err q → value_of en (build u (e ∷ [])) ≡ Err q
   unfolding value_of then
   cast_fault true e b l m y = rw (build-cast u c h e (eqb-true c 3 b), y)
   cast_fault false e b l m y = rw (build_one u c h e (four_up c l (eqb-false c 3 b)) m, y)
 
-  value_fault : (e : Exp) {q : ℕ} (rest : List Exp) → suc (length rest) ≡ operands c → value_of en e ≡ Fault q → value_of en (build u (e ∷ rest)) ≡ Fault q
+  value_fault : (e : Exp) {q : Fault} (rest : List Exp) → suc (length rest) ≡ operands c → value_of en e ≡ Err q → value_of en (build u (e ∷ rest)) ≡ Err q
   unfolding value_of then
   value_fault e [] o y = let r = one_operand c (sym o) in cast_fault (eqb c 3) e refl r.0 r.1 y
   value_fault e (f ∷ []) o y = let r = two_operands c (sym o) in rw (build_two u c h e f r.0 r.1, y)
@@ -146,10 +151,10 @@ env w = named_by w.names
 abbrev read_at : Work → ℕ → Read Exp
 read_at w i = expression (drop i w.call.s)
 
-abbrev pub answer_at : Work → ℕ → Evaluated
+abbrev pub answer_at : Work → ℕ → Result Valued Fault
 answer_at w i = valued_at (env w) i (read_at w i)
 
-abbrev whole : Work → Evaluated
+abbrev whole : Work → Result Valued Fault
 whole w = answer_at w w.call.at
 
 -- an if ends behind the branch for false
@@ -193,11 +198,11 @@ module _ {w : Work} {done : List Exp} {k at : ℕ} (o : Operand w done k at) whe
   unfolding is_read
   is_there = rw o.next.read
 
-  faulted : {q : ℕ} → answer_at w at ≡ evaluated.Fault q → value_of (env w) its ≡ Fault q
+  faulted : {q : Fault} → answer_at w at ≡ Err q → value_of (env w) its ≡ Err q
   faulted y = fault_there (env w) at (read_at w at) o.next.read y
 
-  module _ {t : Ty} {z : ℤ} {n : ℕ} (y : answer_at w at ≡ evaluated.Value t z n) where
-    worked : value_of (env w) its ≡ Value t z
+  module _ {t : Ty} {z : ℤ} {n : ℕ} (y : answer_at w at ≡ value_at t z n) where
+    worked : value_of (env w) its ≡ gives t z
     worked = (value_there_lem (env w) at (read_at w at) o.next.read y).0
 
     ends : at + o.next.n ≡ n
@@ -215,12 +220,12 @@ module _ {w : Work} {done : List Exp} {k at : ℕ} (o : Operand w done k at) whe
 -- the first operand's value is z, of type t, and it ends at n
 pub record First (w : Work) (t : Ty) (z : ℤ) (n : ℕ) : Type 0 where
   pub e : Exp
-  pub value : value_of (named_by w.names) e ≡ Value t z
+  pub value : value_of (named_by w.names) e ≡ gives t z
   pub small : Small t z
   pub reached : Reached w.call (e ∷ []) (w.call.k - 1) n
 
 module _ {w : Work} {at : ℕ} (o : Operand w [] w.call.k at) where
-  pub first : {t : Ty} {z : ℤ} {n : ℕ} → answer_at w at ≡ evaluated.Value t z n → First w t z n
+  pub first : {t : Ty} {z : ℤ} {n : ℕ} → answer_at w at ≡ value_at t z n → First w t z n
   first y = record {
     e = o.next.e;
     value = worked o y;
@@ -228,7 +233,7 @@ module _ {w : Work} {at : ℕ} (o : Operand w [] w.call.k at) where
     reached = subst (λ (i : ℕ). Reached w.call (o.next.e ∷ []) (w.call.k - 1) i) (ends o y) o.next.onward;
   }
 
-  pub exit_first : (q : ℕ) → answer_at w at ≡ evaluated.Fault q → whole w ≡ evaluated.Fault q
+  pub exit_first : (q : Fault) → answer_at w at ≡ Err q → whole w ≡ Err q
   unfolding outcome_at
   exit_first q y =
       let x = w.call in
@@ -307,20 +312,20 @@ module _ {w : Work} {t : Ty} {z : ℤ} {n : ℕ} (g : First w t z n) (l : 0 < w.
   chosen s q = chosen_by (eqb w.call.k 3) (eq_z z (pos 0)) refl refl (rw s at q)
 
 module _ {w : Work} {t : Ty} {z : ℤ} {f : ℕ} (g : Chosen w t z f) where
-  pub exit_second : (q : ℕ) → 0 < w.call.k - 1 → answer_at w f ≡ evaluated.Fault q → whole w ≡ evaluated.Fault q
+  pub exit_second : (q : Fault) → 0 < w.call.k - 1 → answer_at w f ≡ Err q → whole w ≡ Err q
   unfolding outcome_at then
   exit_second q l a = go (two_or_three w.call l)
     where
-      go : ((w.call.k ≡ 2) ⊎ (w.call.k ≡ 3)) → whole w ≡ evaluated.Fault q
+      go : ((w.call.k ≡ 2) ⊎ (w.call.k ≡ 3)) → whole w ≡ Err q
       go (inl e) = g.two e ∙ rw (faulted g.it a)
       go (inr e) = g.three e ∙ rw (faulted g.it a)
 
-  module _ {u : Ty} {y : ℤ} {m : ℕ} (a : answer_at w f ≡ evaluated.Value u y m) where
+  module _ {u : Ty} {y : ℤ} {m : ℕ} (a : answer_at w f ≡ value_at u y m) where
     pub exit_two : {i j : ℤ} → w.call.k ≡ 2 → i ≡ z → j ≡ y → whole w ≡ outcome_at m (apply w.call.c t i j)
     unfolding then
     exit_two e p q = g.two e ∙ rw (worked g.it a, ends g.it a, p, q)
 
-    pub exit_if : {i j : ℤ} {to : ℕ} → w.call.k ≡ 3 → i ≡ z → j ≡ y → to ≡ if_end w i m → evaluated.Value u j to ≡ whole w
+    pub exit_if : {i j : ℤ} {to : ℕ} → w.call.k ≡ 3 → i ≡ z → j ≡ y → to ≡ if_end w i m → value_at u j to ≡ whole w
     unfolding outcome_at
     exit_if e p q r = rw (r, p, q) (sym (g.three e ∙ rw (worked g.it a, ends g.it a)))
 
