@@ -1,7 +1,7 @@
 -- The wires, boxes, inputs and outputs of a network file, group by group: the check of a state, and a load written box by box.
 -- Assumes nothing.
 use Prim.Native.Nat.{ℕ, zero, suc, ◌+◌, ◌*◌, ◌/◌, ◌≤◌}
-use mathlib.Core.Path.{◌≡◌, refl, sym, ap, ap₂, ◌∙◌}
+use mathlib.Core.Path.{◌≡◌, refl, sym, ap, ap₂, subst, ◌∙◌}
 use mathlib.Core.Bool.{Bool, true, false, not, cond, ◌||◌}
 use mathlib.Core.List.{List, [], ◌∷◌, ◌++◌, map, append_assoc, append-nil}
 use native.Mathlib.Omega.{arith}
@@ -10,7 +10,8 @@ use lib.Dec.{leb, ltb}
 use lib.ListN.{length, get_or, drop, replicate, length-append, length-map, length-replicate}
 use borrow.Author.Tests.{ltb-false}
 use Rattle.model.specs.declared.Token.{Token}
-use Rattle.model.specs.declared.Field.TheVariants.{At, Cut}
+use Rattle.model.specs.declared.Field.{Field}
+use Rattle.std.specs.Prelude.{Some, None}
 use Rattle.model.specs.Bytes.{two_at, stretch}
 use Rattle.model.specs.Network.{Variable, Proc, box, input, output, Net, fresh, vars_of, loaded}
 use Rattle.model.specs.NetworkFile.{Index, field_at, tabulate, body_at, net_of, box_at, input_at}
@@ -23,25 +24,24 @@ use Rattle.tokens.proofs.Turns.{write_on, fresh_bytes, loaded_net, boxes_of, inp
 
 -- ── a field that is there ────────────────────────────────────────────────────────────────────
 
-pub record Inside (s : List ℕ) (tag start len at : ℕ) : Type 0 where
-  pub tag_is : tag ≡ get_or s at 0
-  pub starts : start ≡ at + 3
-  pub long : len ≡ two_at s (at + 1)
-  pub ends : start + len ≤ length s
-  pub body : stretch s start len ≡ body_at s at
+pub record Inside (s : List ℕ) (f : Field) (at : ℕ) : Type 0 where
+  pub tag_is : f.tag ≡ get_or s at 0
+  pub starts : f.start ≡ at + 3
+  pub long : f.len ≡ two_at s (at + 1)
+  pub ends : f.start + f.len ≤ length s
+  pub body : stretch s f.start f.len ≡ body_at s at
 
-pub field_inside : (s : List ℕ) (tag start len at : ℕ) → field_at s at ≡ At tag start len → Inside s tag start len at
+pub field_inside : (s : List ℕ) (f : Field) (at : ℕ) → field_at s at ≡ Some f → Inside s f at
 unfolding field_at body_at
-field_inside s tag start len at = by_end (ltb (length s) (at + 3)) (ltb (length s) (at + 3 + two_at s (at + 1))) refl
+field_inside s f at = by_end (ltb (length s) (at + 3)) (ltb (length s) (at + 3 + two_at s (at + 1))) refl
   where
-    by_end : (b c : Bool) → ltb (length s) (at + 3 + two_at s (at + 1)) ≡ c → cond b Cut (cond c Cut (At (get_or s at 0) (at + 3) (two_at s (at + 1)))) ≡ At tag start len → Inside s tag start len at
-    by_end true c h e = let z : ◌≡◌ {A = ℕ} 0 1 = cc in absurd (omega arith)
-    by_end false true h e = let z : ◌≡◌ {A = ℕ} 0 1 = cc in absurd (omega arith)
+    by_end : (b c : Bool) → ltb (length s) (at + 3 + two_at s (at + 1)) ≡ c → cond b None (cond c None (Some (record { tag = get_or s at 0; start = at + 3; len = two_at s (at + 1) }))) ≡ Some f → Inside s f at
+    by_end true c h e = absurd (cc)
+    by_end false true h e = absurd (cc)
     by_end false false h e =
-        let t : get_or s at 0 ≡ tag = cc in
-        let p : at + 3 ≡ start = cc in
-        let l : two_at s (at + 1) ≡ len = cc in
-        record { tag_is = sym t; starts = sym p; long = sym l; ends = omega (arith, ltb-false (length s) (at + 3 + two_at s (at + 1)) h); body = rw (← p, ← l) }
+        let same : record { tag = get_or s at 0; start = at + 3; len = two_at s (at + 1) } ≡ f = cc in
+        let l = ltb-false (length s) (at + 3 + two_at s (at + 1)) h in
+        subst (λ (g : Field). Inside s g at) same (record { tag_is = refl; starts = refl; long = refl; ends = l; body = refl })
 
 -- how many tokens a field has
 pub length_tokens_in : (b : List ℕ) → length (tokens_in b) ≡ length b / 5

@@ -7,46 +7,43 @@ use mathlib.Core.List.{List, [], ◌∷◌, ◌++◌, map, append_assoc, append-
 use native.Mathlib.Omega.{arith}
 use native.Mathlib.Nat.{add-sub_cancel_left}
 use native.Mathlib.Numerals.{add-one}
-use lib.Dec.{eqb}
+use lib.Dec.{eqb, ltb}
 use lib.IntN.{ℤ}
 use lib.ListN.{length, get_or, take, drop, set, length-drop, drop_of_length-le}
-use lib.Seq.{drop-cons, drop-drop, take_at, drop_at, take_all}
-use borrow.Author.Tests.{lt-leb, le-leb, ne_eqb, eq-eqb}
+use lib.Seq.{drop-drop, take_at, drop_at, take_all}
+use borrow.Author.Tests.{ltb-true, ltb-false, lt-leb, le-leb, ne_eqb, eq-eqb}
 use Rattle.model.specs.declared.Ty.{Ty}
-use Rattle.model.specs.declared.Token.{Token}
 use Rattle.model.specs.Bytes.{two_at, two_bytes, value_at, value_bytes}
 use Rattle.model.specs.Values.{within}
 use Rattle.model.specs.Expressions.{type_at}
 use Rattle.model.specs.Network.{Variable, box, fresh, vars_of}
-use Rattle.model.specs.NetworkFile.{tabulate, variable_start, variable_of, box_of}
+use Rattle.model.specs.NetworkFile.{every, tabulate, variable_start, variable_of, box_of}
 use Rattle.model.specs.States.{token_at, read_tokens, token_fits, tokens_fit, tokens_in, token_field, all_zero, room_fits, wire_fits, values_fit, values_bytes, own_bytes}
 use Rattle.model.proofs.Decoded.{length-tabulate}
 use Rattle.octets.proofs.Laws.{value_drop}
 use Rattle.queues.specs.Segments.{mid, put_mid}
 use Rattle.queues.proofs.Segments.{part_put}
 use Rattle.queues.proofs.Queues.{length-values}
-use Rattle.tokens.specs.Parts.{Precise, field_bytes}
+use Rattle.tokens.specs.Parts.{field_bytes}
+use Rattle.tokens.proofs.Every.{every_first}
+use Rattle.std.proofs.Common.{◌≢◌, min}
+use Rattle.std.specs.Bool.{MatchBool}
+use Rattle.std.specs.List.{AllWithin, HoldsAt}
+
+-- no test both holds and fails
+pub both : {A : Type 0} {b : Bool} → b ≡ true → b ≡ false → A
+both e f = let g : true ≡ false = sym e ∙ f in absurd (cc)
 
 -- ── tokens ───────────────────────────────────────────────────────────────────────────────────
 
--- the tokens from i on, of k
-abbrev pub from_token : Ty → List ℕ → ℕ → ℕ → Bool
-from_token t s k i = tokens_fit t (read_tokens (k - i) (drop (5 * i) s))
-
-pub tokens_all : (t : Ty) (s : List ℕ) (k : ℕ) → from_token t s k 0 ≡ tokens_fit t (read_tokens k s)
-tokens_all t s k = let e : k - 0 ≡ k = omega arith in rw e
-
-pub token_turn : (t : Ty) (s : List ℕ) (k i : ℕ) (x : Token) (r b : Bool) → i < k → x ≡ token_at (drop (5 * i) s) → r ≡ token_fits t x → r ≡ b → from_token t s k i ≡ (b && from_token t s k (i + 1))
-unfolding read_tokens tokens_fit
-token_turn t s k i x r b h d f g =
-    let n : k - i ≡ suc (k - (i + 1)) = omega arith in
-    let m : 5 * i + 5 ≡ 5 * (i + 1) = omega arith in
-    let e : token_fits t (token_at (drop (5 * i) s)) ≡ b = ap (token_fits t) (sym d) ∙ sym f ∙ g in
-    rw (n, e, drop-drop 5 (5 * i) s, m)
-
-pub tokens_done : (t : Ty) (s : List ℕ) (k i : ℕ) → k ≤ i → from_token t s k i ≡ true
-unfolding read_tokens tokens_fit
-tokens_done t s k i h = let n : k - i ≡ 0 = omega arith in rw n
+-- each of k tokens by its number
+pub tokens_every : (t : Ty) (k : ℕ) (s : List ℕ) → tokens_fit t (read_tokens k s) ≡ every k (λ i. token_fits t (token_at (drop (5 * i) s)))
+unfolding read_tokens tokens_fit every
+tokens_every t zero s = refl
+tokens_every t (suc k) s =
+    let e : (i : ℕ) → drop (5 * i) (drop 5 s) ≡ drop (5 * suc i) s = λ i. drop-drop (5 * i) 5 s ∙ ap (λ (n : ℕ). drop n s) (omega arith) in
+    ap (λ (b : Bool). token_fits t (token_at s) && b) (tokens_every t k (drop 5 s) ∙ (λ j. every k (λ i. token_fits t (token_at (e i j)))))
+    ∙ sym (every_first k (λ i. token_fits t (token_at (drop (5 * i) s))))
 
 -- ── a field of the token file ────────────────────────────────────────────────────────────────
 
@@ -65,13 +62,33 @@ module _ (t : Ty) (tag : ℕ) (b : List ℕ) where
 
 -- ── zeros ────────────────────────────────────────────────────────────────────────────────────
 
-pub zero_turn : (s : List ℕ) (i : ℕ) (b : Bool) → i < length s → eqb (get_or s i 0) 0 ≡ b → all_zero (drop i s) ≡ (b && all_zero (drop (i + 1) s))
+zeros : (s : List ℕ) → ((k : ℕ) → k < length s → get_or s k 0 ≡ 0) → all_zero s ≡ true
 unfolding all_zero
-zero_turn s i b h e = rw (drop-cons s i 0 h, e, add-one)
+zeros [] h = refl
+zeros (x ∷ s) h = rw (h 0 (omega arith)) (zeros s (λ k l. h (suc k) (omega arith)))
 
-pub zeros_done : (s : List ℕ) (i : ℕ) → length s ≤ i → all_zero (drop i s) ≡ true
+other : (s : List ℕ) (k : ℕ) → k < length s → get_or s k 0 ≢ 0 → all_zero s ≡ false
 unfolding all_zero
-zeros_done s i h = rw (drop_of_length-le s h)
+other [] k l h = absurd (omega arith)
+other (x ∷ s) zero l h = rw (ne_eqb x 0 h)
+other (x ∷ s) (suc k) l h = rw (other s k (omega arith) h) (and_false (eqb x 0))
+  where
+    and_false : (b : Bool) → (b && false) ≡ false
+    and_false true = refl
+    and_false false = refl
+
+-- the answer of `all` over the bytes
+pub all_zeros : (s : List ℕ) (r : Bool) → MatchBool r (AllWithin (λ x. x ≡ 0) s 0 (length s)) ((k : ℕ) × (k < length s) × HoldsAt (λ x. x ≢ 0) s k) → r ≡ all_zero s
+all_zeros s true h = sym (zeros s (λ k l. h k 0 (omega arith) l))
+all_zeros s false (k, l, h) = sym (other s k l (h 0))
+
+-- what is left from an offset on, which may lie past the end
+pub left_from : (s : List ℕ) (from n : ℕ) → n ≡ min from (length s) → take (length s - n) (drop n s) ≡ drop from s
+left_from s from n e = take_all (length s - n) (drop n s) (simp length-drop (omega arith)) ∙ by_end (ltb (length s) from) refl
+  where
+    by_end : (b : Bool) → ltb (length s) from ≡ b → drop n s ≡ drop from s
+    by_end true h = let l = ltb-true (length s) from h in drop_of_length-le s {i = n} (omega arith) ∙ sym (drop_of_length-le s {i = from} (omega arith))
+    by_end false h = let l = ltb-false (length s) from h in ap (λ (k : ℕ). drop k s) (omega arith)
 
 -- ── a room ───────────────────────────────────────────────────────────────────────────────────
 
@@ -105,43 +122,18 @@ output_is t room k s r e f = f ∙ ap₂ (room_fits t room) e (part_is s 2 (leng
 abbrev pub on_from : {A : Type 0} → (ℕ → A) → ℕ → ℕ → List A
 on_from f n j = tabulate n (λ k. f (k + j))
 
-pub on_turn : {A : Type 0} (f : ℕ → A) (n j : ℕ) → j < n → on_from f (n - j) j ≡ f j ∷ on_from f (n - (j + 1)) (j + 1)
-unfolding tabulate
-on_turn {A} f n j h =
-    let m : n - j ≡ suc (n - (j + 1)) = omega arith in
-    let z : 0 + j ≡ j = omega arith in
-    let e : (k : ℕ) → suc k + j ≡ k + (j + 1) = λ k. omega arith in
-    ap (λ (l : ℕ). on_from f l j) m ∙ (λ i. f (z i) ∷ tabulate (n - (j + 1)) (λ k. f (e k i)))
+-- each of n variables by its number
+pub values_every : (n : ℕ) (v : ℕ → Variable) (s : List ℕ) → values_fit (tabulate n v) s ≡ every n (λ j. within (v j).ty (value_at s (4 * j)))
+unfolding values_fit tabulate every
+values_every zero v s = refl
+values_every (suc n) v s =
+    let e : (j : ℕ) → value_at (drop 4 s) (4 * j) ≡ value_at s (4 * suc j) = λ j. value_drop 4 s (4 * j) ∙ ap (value_at s) (omega arith) in
+    ap (λ (b : Bool). within (v 0).ty (value_at s 0) && b) (values_every n (λ k. v (suc k)) (drop 4 s) ∙ (λ i. every n (λ j. within (v (suc j)).ty (e j i))))
+    ∙ sym (every_first n (λ j. within (v j).ty (value_at s (4 * j))))
 
--- the variables from j on, of n
-abbrev pub from_variable : List ℕ → List ℕ → ℕ → ℕ → Bool
-from_variable b s n j = values_fit (on_from (variable_of b) (n - j) j) (drop (4 * j) s)
-
-pub values_all : (b s : List ℕ) (n : ℕ) → n ≡ get_or b 2 0 → from_variable b s n 0 ≡ values_fit (box_of b).vars s
-unfolding box_of
-values_all b s n f =
-    let e : n - 0 ≡ get_or b 2 0 = omega arith in
-    let z : (k : ℕ) → k + 0 ≡ k = λ k. omega arith in
-    λ i. values_fit (tabulate (e i) (λ k. variable_of b (z k i))) s
-
-pub value_turn : (b s : List ℕ) (n j at : ℕ) (t : Ty) (z : ℤ) (r x : Bool) → j < n → at ≡ variable_start b j → t ≡ type_at b at → z ≡ value_at s (4 * j) → r ≡ within t z → r ≡ x →
-    from_variable b s n j ≡ (x && from_variable b s n (j + 1))
-unfolding values_fit variable_of
-value_turn b s n j at t z r x h e₁ e₂ e₃ f g =
-    let m : 4 * j + 4 ≡ 4 * (j + 1) = omega arith in
-    let o : 4 * j + 0 ≡ 4 * j = omega arith in
-    let w : within (type_at b (variable_start b j)) (value_at (drop (4 * j) s) 0) ≡ x =
-    ap₂ within (sym (e₂ ∙ ap (type_at b) e₁)) (value_drop (4 * j) s 0 ∙ ap (value_at s) o ∙ sym e₃) ∙ sym f ∙ g in
-    ap (λ (vs : List Variable). values_fit vs (drop (4 * j) s)) (on_turn (variable_of b) n j h)
-    ∙ ap₂ (λ (y : Bool) (l : List ℕ). y && values_fit (on_from (variable_of b) (n - (j + 1)) (j + 1)) l) w (drop-drop 4 (4 * j) s ∙ ap (λ (k : ℕ). drop k s) m)
-
-pub values_done : (b s : List ℕ) (n j : ℕ) → n ≤ j → from_variable b s n j ≡ true
-unfolding values_fit tabulate
-values_done b s n j h = let e : n - j ≡ 0 = omega arith in rw e
-
--- a variable's precision
-pub precise_at : (b : List ℕ) (j at : ℕ) (t : Ty) → Precise b → j < get_or b 2 0 → at ≡ variable_start b j → t ≡ type_at b at → (1 ≤ t.p) × (t.p ≤ 62)
-precise_at b j at t p h e f = rw (f, e) (p.low j h, omega (arith, p.high j h))
+pub values_are : (b s : List ℕ) (n : ℕ) → n ≡ get_or b 2 0 → values_fit (box_of b).vars s ≡ every n (λ j. within (type_at b (variable_start b j)) (value_at s (4 * j)))
+unfolding box_of variable_of
+values_are b s n e = values_every (get_or b 2 0) (variable_of b) s ∙ ap (λ (k : ℕ). every k (λ j. within (type_at b (variable_start b j)) (value_at s (4 * j)))) (sym e)
 
 -- ── a load ───────────────────────────────────────────────────────────────────────────────────
 

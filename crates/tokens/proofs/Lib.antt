@@ -1,4 +1,5 @@
 -- Laws of tokens on parts.
+pub mod Every
 pub mod Laws
 pub mod Lifts
 pub mod Turns

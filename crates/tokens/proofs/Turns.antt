@@ -12,7 +12,8 @@ use lib.Seq.{take-suc, take_all, drop-cons, drop-drop, take_at, drop_at}
 use borrow.Author.Tests.{eq-eqb, ne_eqb}
 use Rattle.model.specs.declared.Ty.{Ty}
 use Rattle.model.specs.declared.Token.{Token}
-use Rattle.model.specs.declared.Field.TheVariants.{At, Cut}
+use Rattle.model.specs.declared.Field.{Field}
+use Rattle.std.specs.Prelude.{Some, None}
 use Rattle.model.specs.Bytes.{two_at, stretch}
 use Rattle.model.specs.Values.{no_type}
 use Rattle.model.specs.Network.{Wire, Box, Proc, box, input, output, Net, Own, wire, fresh, no_tokens, loaded}
@@ -180,18 +181,18 @@ module _ (types : List Ty) (s : List ℕ) (before : List (List Token)) (i at : �
   left = ahead before (tokens_from (drop i types) s at)
 
   -- one field of an input more
-  pub tokens_field : (tag start len : ℕ) → i < length types → field_at s at ≡ At tag start len → token_field (get_or types i no_type) tag (stretch s start len) ≡ true →
-      left ≡ ahead (before ++ (tokens_in (stretch s start len) ∷ [])) (tokens_from (drop (i + 1) types) s (start + len))
+  pub tokens_field : (f : Field) → i < length types → field_at s at ≡ Some f → token_field (get_or types i no_type) f.tag (stretch s f.start f.len) ≡ true →
+      left ≡ ahead (before ++ (tokens_in (stretch s f.start f.len) ∷ [])) (tokens_from (drop (i + 1) types) s (f.start + f.len))
   unfolding tokens_from input_tokens or_refuse next
-  tokens_field tag start len h e f =
-      rw (drop-cons types i no_type h, e, f, add-one) (ahead_cons before (tokens_in (stretch s start len)) (tokens_from (drop (suc i) types) s (start + len)))
+  tokens_field f h e g =
+      rw (drop-cons types i no_type h, e, g, add-one) (ahead_cons before (tokens_in (stretch s f.start f.len)) (tokens_from (drop (suc i) types) s (f.start + f.len)))
 
   -- a field that is bad, cut or missing
-  pub tokens_bad : (tag start len : ℕ) → i < length types → field_at s at ≡ At tag start len → token_field (get_or types i no_type) tag (stretch s start len) ≡ false → left ≡ refuse 5 at
+  pub tokens_bad : (f : Field) → i < length types → field_at s at ≡ Some f → token_field (get_or types i no_type) f.tag (stretch s f.start f.len) ≡ false → left ≡ refuse 5 at
   unfolding tokens_from input_tokens or_refuse next
-  tokens_bad tag start len h e f = rw (drop-cons types i no_type h, e, f)
+  tokens_bad f h e g = rw (drop-cons types i no_type h, e, g)
 
-  pub tokens_cut : i < length types → field_at s at ≡ Cut → left ≡ refuse 5 at
+  pub tokens_cut : i < length types → field_at s at ≡ None → left ≡ refuse 5 at
   unfolding tokens_from input_tokens next
   tokens_cut h e = rw (drop-cons types i no_type h, e)
 

@@ -18,15 +18,7 @@ pub fn tokens_fit(t: Ty, s: &[u8], k: usize) -> bool
     requires k_in_bounds { 5 * k ≤ length s.now }
     ensures { result ≡ tokens_fit t (read_tokens k s.now) }
 {
-    let mut i = 0;
-    while i < k {
-        let x = queues::token_at(s, 5 * i);
-        if !values::token_fits(t, x) {
-            return false;
-        }
-        i += 1;
-    }
-    true
+    (0..k).all(|i| values::token_fits(t, queues::token_at(s, 5 * i)))
 }
 
 // A field of the token file for an input: its tag, its length and its tokens.
@@ -35,28 +27,16 @@ pub fn token_field(t: Ty, tag: u8, body: &[u8]) -> bool
     requires p_bound { t.p ≤ 30 }
     ensures { result ≡ token_field t tag body.now }
 {
-    if tag != 32 {
-        return false;
-    }
     let n = body.len();
-    if n % 5 != 0 {
-        return false;
-    }
-    tokens_fit(t, body, n / 5)
+    tag == 32 && n % 5 == 0 && tokens_fit(t, body, n / 5)
 }
 
 // Nothing but zeros from an offset on.
 pub fn all_zero(s: &[u8], from: usize) -> bool
     ensures { result ≡ all_zero (drop from s.now) }
 {
-    let mut i = from;
-    while i < s.len() {
-        if s[i] != 0 {
-            return false;
-        }
-        i += 1;
-    }
-    true
+    let start = from.min(s.len());
+    s[start..].iter().all(|x| *x == 0)
 }
 
 // A room that holds k tokens of a type, oldest first, and zeros behind them.
@@ -66,13 +46,7 @@ fn room_fits(t: Ty, room: usize, k: usize, s: &[u8]) -> bool
     requires room_in_bounds { 5 * room ≤ length s.now }
     ensures { result ≡ room_fits t room k s.now }
 {
-    if room < k {
-        return false;
-    }
-    if !tokens_fit(t, s, k) {
-        return false;
-    }
-    all_zero(s, 5 * k)
+    k <= room && tokens_fit(t, s, k) && all_zero(s, 5 * k)
 }
 
 // A wire's part: its count, and a room of its capacity.
@@ -82,9 +56,7 @@ pub fn wire_fits(t: Ty, capacity: usize, part: &[u8]) -> bool
     requires part_len { length part.now ≡ 1 + 5 * capacity }
     ensures { result ≡ wire_fits (record { ty = t; capacity = capacity }) part.now }
 {
-    let k = queues::count(part);
-    let n = part.len();
-    room_fits(t, capacity, k, &part[1..n])
+    room_fits(t, capacity, queues::count(part), &part[1..])
 }
 
 // An output's part: its count of two bytes, and its room.
@@ -94,9 +66,7 @@ pub fn output_fits(t: Ty, room: usize, part: &[u8]) -> bool
     requires part_len { length part.now ≡ 2 + 5 * room }
     ensures { result ≡ room_fits t room (two_at part.now 0) (drop 2 part.now) }
 {
-    let k = octets::two_at(part, 0);
-    let n = part.len();
-    room_fits(t, room, k, &part[2..n])
+    room_fits(t, room, octets::two_at(part, 0), &part[2..])
 }
 
 // Where variable j of a box's body begins.
@@ -104,8 +74,8 @@ fn variable_start(body: &[u8], j: usize) -> usize
     requires { j ≤ 255 }
     ensures { (result ≡ variable_start body.now j) × (result ≤ 2043) }
 {
-    let ins = octets::wide(octets::byte_at(body, 0));
-    let outs = octets::wide(octets::byte_at(body, 1));
+    let ins = usize::from(octets::byte_at(body, 0));
+    let outs = usize::from(octets::byte_at(body, 1));
     3 + ins + outs + 6 * j
 }
 
@@ -124,16 +94,11 @@ pub fn values_fit(body: &[u8], part: &[u8]) -> bool
     requires { Precise body.now }
     ensures { result ≡ values_fit (box_of body.now).vars part.now }
 {
-    let n = octets::wide(octets::byte_at(body, 2));
-    let mut j = 0;
-    while j < n {
-        let t = type_at(body, variable_start(body, j));
-        if !values::within(t, queues::var_at(part, j)) {
-            return false;
-        }
-        j += 1;
-    }
-    true
+    let n = usize::from(octets::byte_at(body, 2));
+    (0..n).all(|j| values::within(
+        type_at(body, variable_start(body, j)),
+        queues::var_at(part, j),
+    ))
 }
 
 // A load: the initial values of the box's variables, whatever stood there.
@@ -141,26 +106,11 @@ pub fn load_values(body: &[u8], part: &mut [u8])
     requires { length part.old ≡ 4 * get_or body.now 2 0 }
     ensures { part.new ≡ own_bytes (box (box_of body.now)) (fresh (box (box_of body.now))) }
 {
-    let n = octets::wide(octets::byte_at(body, 2));
-    let mut j = 0;
-    while j < n {
+    let n = usize::from(octets::byte_at(body, 2));
+    for j in 0..n {
         let at = variable_start(body, j) + 2;
         let z = octets::value_at(body, at);
         queues::put_var(part, j, z);
-        j += 1;
-    }
-}
-
-// All bytes of one part over those of another.
-fn copy(from: &[u8], to: &mut [u8])
-    requires { length to.old ≡ length from.now }
-    ensures { to.new ≡ from.now }
-{
-    let mut i = 0;
-    while i < to.len() {
-        let b = octets::byte_at(from, i);
-        to[i] = b;
-        i += 1;
     }
 }
 
@@ -184,6 +134,6 @@ pub fn field_out(part: &[u8], out: &mut [u8]) -> usize
     put_head(out, n);
     let from = 2 + n;
     let end = 3 + n;
-    copy(&part[2..from], &mut out[3..end]);
+    out[3..end].copy_from_slice(&part[2..from]);
     end
 }

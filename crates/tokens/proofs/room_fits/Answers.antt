@@ -1,13 +1,19 @@
-use mathlib.Core.Path.{sym, ◌∙◌}
-use native.Mathlib.Omega.{arith}
-use Rattle.tokens.proofs.Laws.{room-full, room-wrong, room-right}
+use Rattle.std.proofs.Common.{sym, ◌∙◌, arith}
+use borrow.Author.Tests.{lt-leb}
+use Rattle.tokens.proofs.Laws.{room-full, room-wrong, room-right, both}
 use Rattle.tokens.proofs.room_fits.Goals as goal
+use Rattle.tokens.proofs.room_fits.Goals.{then-k-room, else-k-room}
 
-pub returns-then-room-k : goal.returns-then-room-k
-returns-then-room-k c = sym (room-full _ _ _ _ c.if-room-k.true)
+pub returns-then-tokens_fit : goal.returns-then-tokens_fit
+returns-then-tokens_fit c =
+    elim c.if-k-room.branch [
+      | then-k-room w ↦ c.all_zero.ensures ∙ sym (room-right _ _ _ _ (omega arith) (sym w.tokens_fit.ensures ∙ sym w.value-is ∙ c.if-tokens_fit.true))
+      | else-k-room w ↦ both c.if-tokens_fit.true (w.value-is ∙ lt-leb c.args.k c.args.room (omega arith))
+    ]
 
-pub returns-then-not-tokens_fit : goal.returns-then-not-tokens_fit
-returns-then-not-tokens_fit c = sym (room-wrong _ _ _ _ (omega arith) (sym c.tokens_fit.ensures ∙ c.if-not-tokens_fit.true))
-
-pub returns : goal.returns
-returns c = c.all_zero.ensures ∙ sym (room-right _ _ _ _ (omega arith) (sym c.tokens_fit.ensures ∙ c.if-not-tokens_fit.false))
+pub returns-else-tokens_fit : goal.returns-else-tokens_fit
+returns-else-tokens_fit c =
+    elim c.if-k-room.branch [
+      | then-k-room w ↦ c.if-tokens_fit.false ∙ sym (room-wrong _ _ _ _ (omega arith) (sym w.tokens_fit.ensures ∙ sym w.value-is ∙ c.if-tokens_fit.false))
+      | else-k-room w ↦ c.if-tokens_fit.false ∙ sym (room-full _ _ _ _ (omega arith))
+    ]

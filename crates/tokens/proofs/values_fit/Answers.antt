@@ -1,32 +1,17 @@
-use mathlib.Core.Path.{◌≡◌, sym, ◌∙◌}
-use mathlib.Core.Bool.{Bool, true, false, ◌&&◌}
-use Prim.Native.Nat.{◌+◌}
-use native.Mathlib.Omega.{arith}
-use Rattle.octets.proofs.Laws.{back}
-use Rattle.tokens.proofs.Laws.{from_variable, values_all, value_turn, values_done, precise_at}
+use Rattle.std.proofs.Common.{◌≡◌, ◌*◌, true, false, sym, ◌∙◌, arith, rules}
+use Rattle.std.proofs.lemmas.Iterator.{YieldsList-from_range, cases_from_all}
+use Rattle.model.specs.Bytes.{value_at}
+use Rattle.model.specs.Values.{within}
+use Rattle.model.specs.Expressions.{type_at}
+use Rattle.model.specs.NetworkFile.{variable_start}
+use Rattle.tokens.proofs.Every.{all_every}
+use Rattle.tokens.proofs.Laws.{values_are}
 use Rattle.tokens.proofs.values_fit.Goals as goal
-
-pub loop-j-init : goal.loop-j-init
-loop-j-init c =
-    let a = c.args in
-    let e = c.wide-n.ensures.0 ∙ c.byte_at.ensures in
-    (omega arith, e, values_all a.body.now a.part.now _ e)
-
-pub within-requires : goal.within-requires
-within-requires c =
-    let l = c.loop-j in
-    let s = c in let need = precise_at s.args.body.now l.j _ _ s.requires (omega arith) c.variable_start.ensures.0 c.type_at-t.ensures in record { le_p = need.0; p_bound = need.1 }
-
-pub returns-then-not-within : goal.returns-then-not-within
-returns-then-not-within c = sym (value_turn _ _ _ _ _ _ _ _ false (omega arith) c.variable_start.ensures.0 c.type_at-t.ensures (back (omega arith) ∙ c.var_at.ensures.0) c.within.ensures c.if-not-within.true) ∙ c.loop-j.invariant.2
-
-pub loop-j-preserved : goal.loop-j-preserved
-loop-j-preserved c =
-    let l = c.loop-j in
-    (omega arith, l.invariant.1, sym (value_turn _ _ _ _ _ _ _ _ true (omega arith) c.variable_start.ensures.0 c.type_at-t.ensures (back (omega arith) ∙ c.var_at.ensures.0) c.within.ensures c.if-not-within.false) ∙ l.invariant.2)
 
 pub returns : goal.returns
 returns c =
-    let l = c.loop-j in
     let a = c.args in
-    sym (values_done a.body.now a.part.now _ l.j (omega arith)) ∙ l.invariant.2
+    let n = c.from-n.result in
+    let fits = λ (j : _). within (type_at a.body.now (variable_start a.body.now j)) (value_at a.part.now (4 * j)) in
+    all_every n fits _ (cases_from_all _ _ _ (λ j. fits j ≡ true) (λ j. fits j ≡ false) c.all.ensures.ran (YieldsList-from_range 0 n n (cc) (omega arith)) (λ j q h. search rules) (λ j q h. search rules))
+    ∙ sym (values_are a.body.now a.part.now n (c.from-n.ensures ∙ c.byte_at.ensures))
