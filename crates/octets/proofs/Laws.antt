@@ -11,7 +11,7 @@ use lib.IntN.{ℤ, pos, negsuc, nat_abs, ◌+ℤ◌, ◌-ℤ◌}
 use lib.Signed.{mag, lt_z, non_neg}
 use lib.ListN.{length, get_or, take, drop, set, get_or-eq_default}
 use lib.Seq.{get_or-drop}
-use mir.Syntax.{w64}
+use mir.Syntax.{w32, w64}
 use mir.Val.{SFits, Fits, to_z, of_z}
 use mir.Facts.{to_z_pos, to_z-of_z}
 use borrow.Author.Tests.{lt-ltb, le-ltb, ltb-true, ltb-false}
@@ -21,27 +21,16 @@ use Rattle.model.specs.Bytes.{mod_z, signed_of, two_at, four_at, value_at, two_b
 use Rattle.model.specs.States.{token_bytes}
 use Rattle.model.specs.NetworkFile.{field_at}
 
--- ── reading past the end ─────────────────────────────────────────────────────────────────────
-
-pub byte_past : (s : List ℕ) (i : ℕ) → length s ≤ i → get_or s i 0 ≡ 0
-byte_past s i h = get_or-eq_default s 0 h
-
-pub two_past : (s : List ℕ) (at : ℕ) → length s ≤ at → two_at s at ≡ 0
-unfolding two_at
-two_past s at h = rw (byte_past s at h, byte_past s (at + 1) (omega arith))
-
-pub four_two : (s : List ℕ) (at : ℕ) → four_at s at ≡ two_at s at * 65536 + two_at s (at + 2)
-unfolding four_at two_at
-four_two s at = let e : at + 2 + 1 ≡ at + 3 = omega arith in rw e (omega arith)
-
-pub four_past : (s : List ℕ) (at : ℕ) → length s ≤ at → four_at s at ≡ 0
-four_past s at h = four_two s at ∙ rw (two_past s at h, two_past s (at + 2) (omega arith))
-
 -- ── bounds, where each byte is one ───────────────────────────────────────────────────────────
 
 -- each is below 256
 abbrev pub Octets : List ℕ → Type 0
 Octets s = (i : ℕ) → get_or s i 0 < 256
+
+-- a four-byte number is two of two bytes
+pub four_two : (s : List ℕ) (at : ℕ) → four_at s at ≡ two_at s at * 65536 + two_at s (at + 2)
+unfolding four_at two_at
+four_two s at = let e : at + 2 + 1 ≡ at + 3 = omega arith in rw e (omega arith)
 
 -- ── two's complement ─────────────────────────────────────────────────────────────────────────
 
@@ -86,44 +75,12 @@ mod_signed n h = go (ltb n 2147483648) refl
 pub back : {z : ℤ} → mag z < 9223372036854775808 → to_z w64 (of_z w64 z) ≡ z
 back h = to_z-of_z {w = w64} (record { sfits = h })
 
--- a value below zero, 2^32 further on
-pub lifted : (z : ℤ) → mag z < 2147483648 → lt_z (to_z w64 (of_z w64 z)) (pos 0) ≡ true → to_z w64 (of_z w64 z) +ℤ pos 4294967296 ≡ pos (mod_z z 4294967296)
-unfolding mod_z
-lifted (pos n) h t = absurd (omega (arith, ltb-true n 0 (rw (back {z = pos n} (omega arith)) at t)))
-lifted (negsuc n) h t =
-    rw (back {z = negsuc n} (omega arith), le-ltb 4294967296 (suc n) (omega arith), mod-eq_of_lt {n = n} {m = 4294967296} (omega arith))
-
--- one that is not
-pub kept : (z : ℤ) → mag z < 2147483648 → lt_z (to_z w64 (of_z w64 z)) (pos 0) ≡ false → z ≡ pos (mod_z z 4294967296)
-unfolding mod_z
-kept (pos n) h t = ap pos (sym (mod-eq_of_lt {n = n} {m = 4294967296} (omega arith)))
-kept (negsuc n) h t = let f : true ≡ false = rw (back {z = negsuc n} (omega arith)) at t in cc
-
-pub mod_z_below : (z : ℤ) → mod_z z 4294967296 < 4294967296
-unfolding mod_z
-mod_z_below (pos n) = omega arith
-mod_z_below (negsuc n) = omega arith
-
 -- a number from 0 on, as it is cast
 pub cast_fits : {z : ℤ} {n : ℕ} → z ≡ pos n → n < 4294967296 → T (non_neg (to_z w64 (of_z w64 z))) × Fits w64 (nat_abs (to_z w64 (of_z w64 z)))
 cast_fits {z} {n} e h = rw (e, to_z_pos w64 {n = n} (omega arith)) (tt, record { fits = omega arith })
 
 pub cast_is : {z : ℤ} {n : ℕ} → z ≡ pos n → n < 4294967296 → (nat_abs (to_z w64 (of_z w64 z)) ≡ n) × (nat_abs (to_z w64 (of_z w64 z)) < 4294967296)
 cast_is {z} {n} e h = rw (e, to_z_pos w64 {n = n} (omega arith)) (refl, h)
-
-pub less_fits : (n : ℕ) → n < 4294967296 → SFits w64 (to_z w64 n -ℤ pos 4294967296)
-less_fits n h = rw (to_z_pos w64 {n = n} (omega arith), high_is n h) (record { sfits = omega arith })
-
--- the value of a number of four bytes, in its two cases
-pub value_low : (s : List ℕ) (at n : ℕ) → n ≡ four_at s at → n < 2147483648 → (to_z w64 n ≡ value_at s at) × (mag (to_z w64 n) < 2147483648)
-unfolding value_at
-value_low s at n e h = rw (to_z_pos w64 {n = n} (omega arith), ← e) (sym (signed_low n h), h)
-
-pub value_high : (s : List ℕ) (at n : ℕ) → n ≡ four_at s at → n < 4294967296 → 2147483648 ≤ n →
-    (to_z w64 (of_z w64 (to_z w64 n -ℤ pos 4294967296)) ≡ value_at s at) × (mag (to_z w64 (of_z w64 (to_z w64 n -ℤ pos 4294967296))) < 2147483648)
-unfolding value_at
-value_high s at n e h g =
-    rw (to_z-of_z (less_fits n h), to_z_pos w64 {n = n} (omega arith), high_is n h, ← e) (sym (signed_high n g ∙ high_is n h), omega arith)
 
 -- ── written and read ─────────────────────────────────────────────────────────────────────────
 
@@ -208,19 +165,50 @@ pub value_drop : (k : ℕ) (s : List ℕ) (at : ℕ) → value_at (drop k s) at 
 unfolding value_at
 value_drop k s at = ap (signed_of 32) (four_drop k s at)
 
--- ── stores at the start ──────────────────────────────────────────────────────────────────────
+-- ── as std reads and writes them ─────────────────────────────────────────────────────────────
 
-pub put_2 : (s : List ℕ) (a b : ℕ) → 2 ≤ length s → set (set s 0 a) 1 b ≡ (a ∷ b ∷ []) ++ drop 2 s
-put_2 [] a b h = absurd (omega arith)
-put_2 (x ∷ []) a b h = absurd (omega arith)
-put_2 (x ∷ y ∷ s) a b h = refl
+-- a number, from the bytes behind its offset
+pub two_read : (s rest : List ℕ) (at : ℕ) → rest ≡ drop at s → two_at s at ≡ get_or rest 0 0 * 256 + get_or rest 1 0
+unfolding two_at
+two_read s rest at e = rw e (sym (two_drop at s 0 ∙ ap (two_at s) (omega arith)))
 
-pub put_4 : (s : List ℕ) (a b c d : ℕ) → 4 ≤ length s → set (set (set (set s 0 a) 1 b) 2 c) 3 d ≡ (a ∷ b ∷ c ∷ d ∷ []) ++ drop 4 s
-put_4 [] a b c d h = absurd (omega arith)
-put_4 (x ∷ []) a b c d h = absurd (omega arith)
-put_4 (x ∷ y ∷ []) a b c d h = absurd (omega arith)
-put_4 (x ∷ y ∷ z ∷ []) a b c d h = absurd (omega arith)
-put_4 (x ∷ y ∷ z ∷ w ∷ s) a b c d h = refl
+pub four_read : (s rest : List ℕ) (at : ℕ) → rest ≡ drop at s → four_at s at ≡ ((get_or rest 0 0 * 256 + get_or rest 1 0) * 256 + get_or rest 2 0) * 256 + get_or rest 3 0
+unfolding four_at
+four_read s rest at e = rw e (sym (four_drop at s 0 ∙ ap (four_at s) (omega arith)))
+
+pub two_written : (n : ℕ) → n < 65536 → two_bytes n ≡ n / 256 % 256 ∷ n % 256 ∷ []
+unfolding two_bytes
+two_written n h = rw (mod-eq_of_lt {n = n / 256} {m = 256} (omega arith))
+
+pub four_written : (n : ℕ) → n < 4294967296 → four_bytes n ≡ n / 16777216 % 256 ∷ n / 65536 % 256 ∷ n / 256 % 256 ∷ n % 256 ∷ []
+unfolding four_bytes
+four_written n h = rw (mod-eq_of_lt {n = n / 16777216} {m = 256} (omega arith))
+
+-- 32 bits, as a signed number
+signed_bits : (n : ℕ) → n < 4294967296 → to_z w32 n ≡ signed_of 32 n
+signed_bits n h = go (ltb n 2147483648) refl
+  where
+    go : (b : Bool) → ltb n 2147483648 ≡ b → to_z w32 n ≡ signed_of 32 n
+    go true e = rw e (sym (signed_low n (ltb-true n 2147483648 e)))
+    go false e = let g = ltb-false n 2147483648 e in rw e (ap negsuc (omega arith) ∙ sym (signed_high n g ∙ high_is n h))
+
+-- the value of a number of four bytes
+pub value_read : (s : List ℕ) (at n : ℕ) (z y : ℤ) → n ≡ four_at s at → n < 4294967296 → z ≡ to_z w32 n → y ≡ to_z w32 (of_z w32 z)
+    → (to_z w64 (of_z w64 y) ≡ value_at s at) × (mag (to_z w64 (of_z w64 y)) < 2147483648)
+unfolding value_at
+value_read s at n z y e h f g =
+    let is : z ≡ signed_of 32 n = f ∙ signed_bits n h in
+    let small : mag z < 2147483648 = rw is (mag_signed n h) in
+    rw (g, to_z-of_z {w = w32} {z = z} (record { sfits = small }), back {z = z} (omega (arith, small))) (is ∙ ap (signed_of 32) e, small)
+
+-- the pattern of a value
+pub pattern_is : (z : ℤ) → mag z < 2147483648 → of_z w32 (to_z w32 (of_z w32 (to_z w64 (of_z w64 z)))) ≡ mod_z z 4294967296
+unfolding mod_z
+pattern_is z h = rw (back {z = z} (omega arith), to_z-of_z {w = w32} {z = z} (record { sfits = h })) (bits z h)
+  where
+    bits : (y : ℤ) → mag y < 2147483648 → of_z w32 y ≡ mod_z y 4294967296
+    bits (pos n) l = sym (mod-eq_of_lt {n = n} {m = 4294967296} (omega arith))
+    bits (negsuc n) l = rw (mod-eq_of_lt {n = n} {m = 4294967296} (omega arith)) refl
 
 -- a value's bytes are those of its pattern
 pub put_value : (s last : List ℕ) (z : ℤ) (n : ℕ) → mag z < 2147483648 → n ≡ mod_z (to_z w64 (of_z w64 z)) 4294967296 → last ≡ four_bytes n ++ drop 4 s → last ≡ value_bytes z ++ drop 4 s

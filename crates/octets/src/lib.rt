@@ -30,35 +30,35 @@ pub fn entry(t: &[u16], i: usize) -> usize
     t.get(i).map_or(0, |x| usize::from(*x))
 }
 
+// The bytes from an offset on.
+fn behind(s: &[u8], at: usize) -> &[u8]
+    ensures { result.now ≡ drop at s.now }
+{
+    s.get(at..).unwrap_or(&[])
+}
+
 // The two-byte number at an offset.
 pub fn two_at(s: &[u8], at: usize) -> usize
     ensures { (result ≡ two_at s.now at) × (result < 65536) }
 {
-    if s.len() <= at {
-        return 0;
-    }
-    usize::from(byte_at(s, at)) * 256 + usize::from(byte_at(s, at + 1))
+    let s = behind(s, at);
+    usize::from(u16::from_be_bytes([byte_at(s, 0), byte_at(s, 1)]))
 }
 
 // The four-byte number at an offset.
 pub fn four_at(s: &[u8], at: usize) -> usize
     ensures { (result ≡ four_at s.now at) × (result < 2 ^ 32) }
 {
-    if s.len() <= at {
-        return 0;
-    }
-    two_at(s, at) * 65536 + two_at(s, at + 2)
+    let s = behind(s, at);
+    u32::from_be_bytes([byte_at(s, 0), byte_at(s, 1), byte_at(s, 2), byte_at(s, 3)]) as usize
 }
 
 // The four-byte value at an offset, in two's complement.
 pub fn value_at(s: &[u8], at: usize) -> i64
     ensures { (result ≡ value_at s.now at) × (mag result < 2 ^ 31) }
 {
-    let n = four_at(s, at);
-    if n < 2147483648 {
-        return n as i64;
-    }
-    n as i64 - 4294967296
+    let n = four_at(s, at) as u32;
+    i64::from(n.cast_signed())
 }
 
 // The four-byte pattern of a value.
@@ -66,10 +66,8 @@ pub fn pattern(z: i64) -> usize
     requires { mag z < 2 ^ 31 }
     ensures { (result ≡ mod_z z (2 ^ 32)) × (result < 2 ^ 32) }
 {
-    if z < 0 {
-        return (z + 4294967296) as usize;
-    }
-    z as usize
+    let z = z as i32;
+    z.cast_unsigned() as usize
 }
 
 // A two-byte number, written at the start.
@@ -77,8 +75,8 @@ pub fn put_two(s: &mut [u8], n: usize)
     requires { (2 ≤ length s.old) × (n < 65536) }
     ensures { s.new ≡ two_bytes n ++ drop 2 s.old }
 {
-    s[0] = (n / 256) as u8;
-    s[1] = (n % 256) as u8;
+    let n = n as u16;
+    s[..2].copy_from_slice(&n.to_be_bytes());
 }
 
 // A four-byte number, written at the start.
@@ -86,10 +84,8 @@ fn put_four(s: &mut [u8], n: usize)
     requires { (4 ≤ length s.old) × (n < 2 ^ 32) }
     ensures { s.new ≡ four_bytes n ++ drop 4 s.old }
 {
-    s[0] = (n / 16777216) as u8;
-    s[1] = (n / 65536 % 256) as u8;
-    s[2] = (n / 256 % 256) as u8;
-    s[3] = (n % 256) as u8;
+    let n = n as u32;
+    s[..4].copy_from_slice(&n.to_be_bytes());
 }
 
 // A value, written at the start.
@@ -105,8 +101,7 @@ pub fn part(s: &[u8], start: usize, len: usize) -> &[u8]
     requires { start + len ≤ length s.now }
     ensures { PartOf s.entry start len result }
 {
-    let end = start + len;
-    &s[start..end]
+    &s[start..start + len]
 }
 
 // The field at an offset, if the file does not end before it does.

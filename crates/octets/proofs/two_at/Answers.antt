@@ -1,12 +1,6 @@
 use native.Mathlib.Omega.{arith}
-use mathlib.Core.Path.{sym}
-use Rattle.model.specs.Bytes.{two_at}
-use Rattle.octets.proofs.Laws.{two_past}
+use Rattle.octets.proofs.Laws.{two_read}
 use Rattle.octets.proofs.two_at.Goals as goal
 
-pub returns-then-s-at : goal.returns-then-s-at
-returns-then-s-at c = (sym (two_past _ _ (omega arith)), omega arith)
-
 pub returns : goal.returns
-unfolding two_at
-returns c = (cc, omega arith)
+returns c = (omega (arith, two_read c.args.s.now _ c.args.at c.behind-s.ensures), omega arith)
