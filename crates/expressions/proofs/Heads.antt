@@ -22,9 +22,9 @@ head_at at s = get_or-drop at s 0 0 ∙ rw (add-zero at)
 
 first_third : (a b c d : Bool) → (a && b && c && d) ≡ true → (a ≡ true) × (c ≡ true)
 first_third true true true d e = (refl, refl)
-first_third true true false d e = absurd (let z : ◌≡◌ {A = ℕ} 0 1 = cc in omega arith)
-first_third true false c d e = absurd (let z : ◌≡◌ {A = ℕ} 0 1 = cc in omega arith)
-first_third false b c d e = absurd (let z : ◌≡◌ {A = ℕ} 0 1 = cc in omega arith)
+first_third true true false d e = absurd cc
+first_third true false c d e = absurd cc
+first_third false b c d e = absurd cc
 
 module _ (s : List ℕ) (at c : ℕ) (h : c ≡ get_or s at 0) where
   head_is : get_or (drop at s) 0 0 ≡ c

@@ -52,7 +52,7 @@ pub record Parts (s : List ℕ) (at d c : ℕ) : Type 0 where
 module _ (s : List ℕ) (at c : ℕ) (h : get_or (drop at s) 0 0 ≡ c) where
   depth_go : (d : ℕ) (es : List Exp) → length es ≡ operands c → shallow d (build (drop at s) es) ≡ true → (1 ≤ d) × ((all_shallow (d - 1) es ≡ true) × (precise_head (drop at s) ≡ true))
   unfolding shallow
-  depth_go zero es l e = absurd (let z : ◌≡◌ {A = Bool} false true = rw (lt-leb (depth_of (build (drop at s) es)) 0 (depth_pos (build (drop at s) es))) at e in let w : ◌≡◌ {A = ℕ} 0 1 = cc in omega arith)
+  depth_go zero es l e = absurd (let z : ◌≡◌ {A = Bool} false true = rw (lt-leb (depth_of (build (drop at s) es)) 0 (depth_pos (build (drop at s) es))) at e in cc)
   depth_go (suc d) es l e =
       let q : d ≡ suc d - 1 = omega arith in
       let b : (precise_head (drop at s) && all_shallow d es) ≡ true = sym (built d (drop at s) c h es l) ∙ e in
@@ -62,7 +62,7 @@ module _ (s : List ℕ) (at c : ℕ) (h : get_or (drop at s) 0 0 ≡ c) where
       (d : ℕ) (r : Read (List Exp)) → head_fits (drop at s) ≡ true → expression (drop at s) ≡ headed (build (drop at s)) (head_size c) r →
       All (λ es n. length es ≡ operands c) r → All (λ es n. Run s (operands c) (at + head_size c) es (at + head_size c + n)) r → fits_at d (expression (drop at s)) ≡ true → Parts s at d c
   unfolding All after fits_at
-  parts-got d bad w x l r f = absurd (let z : ◌≡◌ {A = Bool} false true = rw x at f in let w : ◌≡◌ {A = ℕ} 0 1 = cc in omega arith)
+  parts-got d bad w x l r f = absurd (let z : ◌≡◌ {A = Bool} false true = rw x at f in cc)
   parts-got d (got es n) w x l r f =
       let g = depth_go d es l (rw x at f) in
       let q : at + head_size c + n ≡ at + (head_size c + n) = omega arith in
@@ -70,7 +70,7 @@ module _ (s : List ℕ) (at c : ℕ) (h : get_or (drop at s) 0 0 ≡ c) where
 
   parts_by : (b : Bool) (d : ℕ) → head_fits (drop at s) ≡ b → fits_at d (expression (drop at s)) ≡ true → Parts s at d c
   unfolding fits_at
-  parts_by false d e f = absurd (let z : ◌≡◌ {A = Bool} false true = rw (no_exp (drop at s) e) at f in let w : ◌≡◌ {A = ℕ} 0 1 = cc in omega arith)
+  parts_by false d e f = absurd (let z : ◌≡◌ {A = Bool} false true = rw (no_exp (drop at s) e) at f in cc)
   parts_by true d e f =
       let u = drop at s in
       let q : drop (head_size c) u ≡ drop (at + head_size c) s = drop-drop (head_size c) at s in

@@ -200,10 +200,10 @@ module _ (s : List ℕ) where
     where
       by_head : (b : Bool) → head_fits (drop at s) ≡ b → head_fits (drop at s) ≡ true
       by_head true g = g
-      by_head false g = let z : None ≡ Some e = sym (halt p at l g) ∙ h in let z' : ◌≡◌ {A = ℕ} 0 1 = cc in absurd (omega arith)
+      by_head false g = let z : None ≡ Some e = sym (halt p at l g) ∙ h in absurd cc
 
 -- what is there ends where it is skipped to
 pub skip_is : {A : Type 0} (at : ℕ) (r : Read A) → is_read r ≡ true → end_from at r ≡ Some (skip_to at r)
 unfolding end_from is_read skip_to
-skip_is at bad e = let z : ◌≡◌ {A = ℕ} 0 1 = cc in absurd (omega arith)
+skip_is at bad e = absurd cc
 skip_is at (got a n) e = refl

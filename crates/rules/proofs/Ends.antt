@@ -26,7 +26,7 @@ part_is s at = take_all (length s - at) (drop at s) (omega (arith, length-drop a
 is_read_lem : {A : Type 0} (t : Bool) (r : Read A) → is_read (provided t r) ≡ true → (t ≡ true) × (provided t r ≡ r)
 unfolding is_read provided
 is_read_lem true r e = (refl, refl)
-is_read_lem false r e = let z : ◌≡◌ {A = ℕ} 0 1 = cc in absurd (omega arith)
+is_read_lem false r e = absurd cc
 
 -- ── one after another ────────────────────────────────────────────────────────────────────────
 
@@ -38,7 +38,7 @@ module _ {A : Type 0} (f : List ℕ → Read A) (b : List ℕ) where
 
   step_go : (k at end : ℕ) (r : Read A) → end_from at r ≡ Some end → end_from at (after r (λ a n. after (read_many f k (drop n (drop at b))) (λ rest m. got (a ∷ rest) (n + m)))) ≡ end_from end (read_many f k (drop end b))
   unfolding end_from after
-  step_go k at end bad e = let z : ◌≡◌ {A = ℕ} 0 1 = cc in absurd (omega arith)
+  step_go k at end bad e = absurd cc
   step_go k at end (got a n) e =
       let q : at + n ≡ end = cc in
       rw (drop-drop n at b) (many_got (read_many f k (drop (at + n) b)) a at n ∙ ap (λ (j : ℕ). end_from j (read_many f k (drop j b))) q)
@@ -53,7 +53,7 @@ module _ {A : Type 0} (f : List ℕ → Read A) (b : List ℕ) where
   bad_go : (k at : ℕ) (r : Read A) → end_from at r ≡ None → end_from at (after r (λ a n. after (read_many f k (drop n (drop at b))) (λ rest m. got (a ∷ rest) (n + m)))) ≡ None
   unfolding end_from after
   bad_go k at bad e = refl
-  bad_go k at (got a n) e = let z : ◌≡◌ {A = ℕ} 0 1 = cc in absurd (omega arith)
+  bad_go k at (got a n) e = absurd cc
 
   pub end_bad : (k at : ℕ) → 0 < k → end_from at (f (drop at b)) ≡ None → end_from at (read_many f k (drop at b)) ≡ None
   unfolding read_many
@@ -184,7 +184,7 @@ module _ (b : List ℕ) (at c : ℕ) (h : is_read (read_action any_code (drop at
     sent_skip = go (expression (drop (at + 1) b)) sent_there ∙ sym (ap (skip_to at) sent_is)
       where
         go : (r : Read Exp) → is_read r ≡ true → skip_to (at + 1) r ≡ skip_to at (after r (λ e n. got (send (sent_tag c) e) (1 + n)))
-        go bad e = let z : ◌≡◌ {A = ℕ} 0 1 = cc in absurd (omega arith)
+        go bad e = absurd cc
         go (got x n) e = omega arith
 
   pub bare_skip : holds_expression c ≡ false → at + 1 ≡ skip_to at (read_action any_code (drop at b))

@@ -41,7 +41,7 @@ module _ (f : List ℕ → Read Action) (b : List ℕ) where
 
   step_go : (k at end : ℕ) (r : Read Action) → end_from at r ≡ Some end → keeps_read r ≡ true → limits_of (after r (λ a n. after (read_many f k (drop n (drop at b))) (λ rest m. got (a ∷ rest) (n + m)))) ≡ limits_of (read_many f k (drop end b))
   unfolding end_from after keeps_read
-  step_go k at end bad e g = let z : ◌≡◌ {A = ℕ} 0 1 = cc in absurd (omega arith)
+  step_go k at end bad e g = absurd cc
   step_go k at end (got x n) e g =
       let q : at + n ≡ end = cc in
       rw (drop-drop n at b) (rest_got true (read_many f k (drop (at + n) b)) x n g ∙ ap (λ (j : ℕ). limits_of (read_many f k (drop j b))) q)
@@ -71,7 +71,7 @@ module _ (f : List ℕ → Read Action) (b : List ℕ) where
 pub keeps_bad : (r : Read Action) (at : ℕ) → end_from at r ≡ None → keeps_read r ≡ false
 unfolding end_from keeps_read
 keeps_bad bad at e = refl
-keeps_bad (got x n) at e = let z : ◌≡◌ {A = ℕ} 0 1 = cc in absurd (omega arith)
+keeps_bad (got x n) at e = absurd cc
 
 -- ── the action at the start of a stretch ─────────────────────────────────────────────────────
 
@@ -96,7 +96,7 @@ keeps_go false s e = bare_keeps (get_or s 0 0)
 keeps_by : (t : Bool) (known : ℕ → Bool) (s : List ℕ) (at end : ℕ) (r : Read Action) → end_from at (provided t r) ≡ Some end → keeps_read (provided t r) ≡ keeps_read r
 unfolding provided end_from
 keeps_by true known s at end r e = refl
-keeps_by false known s at end r e = let z : ◌≡◌ {A = ℕ} 0 1 = cc in absurd (omega arith)
+keeps_by false known s at end r e = absurd cc
 
 pub keeps_is : (known : ℕ → Bool) (s : List ℕ) (at end : ℕ) → end_from at (read_action known s) ≡ Some end → keeps_read (read_action known s) ≡ sent_limits s
 unfolding read_action sent_limits

@@ -26,7 +26,7 @@ is_laid (Some p) = true
 
 module _ (b : List ℕ) where
   link : {A : Type 0} (k : ℕ) (r : Read A) (g : ℕ → Option Parts) (h : A → ℕ → Read Rule) → ((x : A) (n : ℕ) → is_laid (g (k + n)) ≡ is_whole (h x n) b) → is_laid (next (end_from k r) g) ≡ is_whole (after r h) b
-  unfolding is_laid next end_from is_whole after
+  unfolding is_laid end_from is_whole after
   link k bad g h e = refl
   link k (got x n) g h e = e x n
 
@@ -53,8 +53,7 @@ pub record Went (r : Option ℕ) (f : ℕ → Option Parts) (p : Parts) : Type 0
   pub rest : f to ≡ Some p
 
 went : (r : Option ℕ) (f : ℕ → Option Parts) (p : Parts) → next r f ≡ Some p → Went r f p
-unfolding next
-went None f p e = let z : ◌≡◌ {A = ℕ} 0 1 = cc in absurd (omega arith)
+went None f p e = absurd cc
 went (Some n) f p e = record { to = n; here = refl; rest = e }
 
 pub record Found {A : Type 0} (r : Read A) (at end : ℕ) : Type 0 where
@@ -65,7 +64,7 @@ pub record Found {A : Type 0} (r : Read A) (at end : ℕ) : Type 0 where
 
 pub found : {A : Type 0} (r : Read A) (at end : ℕ) → end_from at r ≡ Some end → Found r at end
 unfolding end_from
-found bad at end e = let z : ◌≡◌ {A = ℕ} 0 1 = cc in absurd (omega arith)
+found bad at end e = absurd cc
 found (got x n) at end e = record { thing = x; size = n; read = refl; ends = cc }
 
 -- what stands in a whole body
@@ -78,7 +77,7 @@ pub record Laid (a : Arity) (b : List ℕ) (p : Parts) : Type 0 where
 
 whole_if : (t : Bool) (q p : Parts) → cond t (Some q) None ≡ Some p → (t ≡ true) × (q ≡ p)
 whole_if true q p e = (refl, cc)
-whole_if false q p e = let z : ◌≡◌ {A = ℕ} 0 1 = cc in absurd (omega arith)
+whole_if false q p e = absurd cc
 
 pub laid : (a : Arity) (b : List ℕ) (p : Parts) → layout_of a b ≡ Some p → Laid a b p
 unfolding layout_of

@@ -3,3 +3,4 @@ pub mod Ends
 pub mod Keeping
 pub mod Laying
 pub mod Stops
+pub mod Folding

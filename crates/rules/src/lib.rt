@@ -19,33 +19,26 @@ pub struct Parts {
 }
 
 // A code of a variable's pattern, or of an input's.
+#[tactic(auto, unfolding(crate::specs::Bodies::pattern_codes, model::specs::Rules::variable_code, model::specs::Rules::input_code))]
 fn pattern_known(c: u8, var: bool) -> bool
     ensures { result ≡ pattern_codes var c }
 {
-    if var {
-        return (c == 0) | (c == 2);
-    }
-    c <= 6
+    if var { matches!(c, 0 | 2) } else { c <= 6 }
 }
 
 // The bytes of a pattern: a constant takes four more.
+#[tactic(auto, unfolding(model::specs::Rules::pattern_size))]
 pub fn pattern_size(c: u8) -> usize
     ensures { result ≡ pattern_size c }
 {
-    if (c == 2) | (c == 6) {
-        return 5;
-    }
-    1
+    if matches!(c, 2 | 6) { 5 } else { 1 }
 }
 
 // Where the pattern at an offset ends, if one is there.
 pub fn pattern_end(b: &[u8], at: usize, var: bool) -> Option<usize>
     ensures { result ≡ end_from at (read_pattern (pattern_codes var) (drop at b.now)) }
 {
-    if b.len() <= at {
-        return None;
-    }
-    let c = b[at];
+    let c = *b.get(at)?;
     if !pattern_known(c, var) {
         return None;
     }
@@ -68,11 +61,7 @@ pub fn skip_pattern(b: &[u8], at: usize) -> usize
 fn patterns_end(b: &[u8], from: usize, n: usize, var: bool) -> Option<usize>
     ensures { result ≡ end_from from (patterns_from var n from b.now) }
 {
-    let mut at = from;
-    for _ in 0..n {
-        at = pattern_end(b, at, var)?;
-    }
-    Some(at)
+    (0..n).try_fold(from, |at, _| pattern_end(b, at, var))
 }
 
 // Where the expression at an offset ends, if one is there.
@@ -86,30 +75,26 @@ pub fn expression_end(b: &[u8], at: usize) -> Option<usize>
 }
 
 // A code of a variable's action, or of an output's.
+#[tactic(auto, unfolding(crate::specs::Bodies::action_codes, model::specs::Rules::variable_action, model::specs::Rules::output_action))]
 fn action_known(c: u8, var: bool) -> bool
     ensures { result ≡ action_codes var c }
 {
-    if var {
-        return c <= 1;
-    }
-    (c <= 5) & (c != 2)
+    if var { c <= 1 } else { c <= 5 && c != 2 }
 }
 
 // Codes 1 and 5 hold an expression.
+#[tactic(auto, unfolding(model::specs::Rules::holds_expression))]
 pub fn holds_expression(c: u8) -> bool
     ensures { result ≡ holds_expression c }
 {
-    (c == 1) | (c == 5)
+    matches!(c, 1 | 5)
 }
 
 // Where the action at an offset ends, if one is there.
 pub fn action_end(b: &[u8], at: usize, var: bool) -> Option<usize>
     ensures { result ≡ end_from at (read_action (action_codes var) (drop at b.now)) }
 {
-    if b.len() <= at {
-        return None;
-    }
-    let c = b[at];
+    let c = *b.get(at)?;
     if !action_known(c, var) {
         return None;
     }
@@ -135,11 +120,7 @@ pub fn skip_action(b: &[u8], at: usize) -> usize
 fn actions_end(b: &[u8], from: usize, n: usize, var: bool) -> Option<usize>
     ensures { result ≡ end_from from (actions_from var n from b.now) }
 {
-    let mut at = from;
-    for _ in 0..n {
-        at = action_end(b, at, var)?;
-    }
-    Some(at)
+    (0..n).try_fold(from, |at, _| action_end(b, at, var))
 }
 
 // Where the parts of a whole body begin: the five one after another, each from where the one before it ends. None at a fault of form.
@@ -209,12 +190,8 @@ pub fn expression_limits(b: &[u8], at: usize) -> bool
 pub fn action_limits(b: &[u8], at: usize) -> bool
     ensures { result ≡ sent_limits (drop at b.now) }
 {
-    if b.len() <= at {
-        return true;
+    match b.get(at) {
+        Some(c) if holds_expression(*c) => expression_limits(b, at + 1),
+        _ => true,
     }
-    let c = b[at];
-    if holds_expression(c) {
-        return expression_limits(b, at + 1);
-    }
-    true
 }

@@ -23,7 +23,7 @@ unfolding typed_at placed
 ill_there m sc at r {e} {n} x y = go (type_of sc e) refl (rw x at y)
   where
     go : (w : Typed) → type_of sc e ≡ w → placed at n w ≡ Err m → (k : ℕ) × ((type_of sc e ≡ ill k) × (at + k ≡ m))
-    go (typed t) f z = absurd (let z : ◌≡◌ {A = ℕ} 0 1 = cc in omega arith)
+    go (typed t) f z = absurd cc
     go (ill k) f z = (k, (f, cc))
 
 -- the operands before an offset have these types, and k more stand from there on

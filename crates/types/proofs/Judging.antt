@@ -68,7 +68,7 @@ typeds_at (f ∷ es) e rest (more x r) = typeds_at es e rest r
 pub operand_typed : (at : ℕ) (x : Typed) (f : Ty → Typed) {u : Ty} → operand_at at x f ≡ typed u → (t : Ty) × ((x ≡ typed t) × (f t ≡ typed u))
 unfolding operand_at
 operand_typed at (typed t) f e = (t, (refl, e))
-operand_typed at (ill k) f e = absurd (let z : ◌≡◌ {A = ℕ} 0 1 = cc in omega arith)
+operand_typed at (ill k) f e = absurd cc
 
 -- a cast is of numbers; otherwise not or lnot
 abbrev pub one_rule : ℕ → Ty → Ty → Typed

@@ -1,27 +1,21 @@
-use mathlib.Core.Path.{refl, sym, ap, ◌∙◌}
-use Prim.Native.Nat.{ℕ, ◌+◌}
-use native.Mathlib.Omega.{arith}
-use lib.ListN.{get_or}
-use Rattle.std.specs.Prelude.{Some}
+use Rattle.std.proofs.Common.{rules, ℕ, ◌+◌, Some, sym, ap, ◌∙◌, arith}
 use Rattle.rules.specs.Bodies.{pattern_codes}
 use Rattle.rules.proofs.Ends.{pattern_none, pattern_unknown, pattern_cut, pattern_whole}
 use Rattle.rules.proofs.pattern_end.Goals as goal
 
-pub returns-then-b-at : goal.returns-then-b-at
-returns-then-b-at c = let a = c.args in pattern_none (pattern_codes a.var) a.b.now a.at c.if-b-at.true
+pub returns-in_err-c : goal.returns-in_err-c
+returns-in_err-c c = c.from_residual.ensures ∙ pattern_none (pattern_codes c.args.var) c.args.b.now c.args.at (search rules)
 
 pub returns-then-not-pattern_known : goal.returns-then-not-pattern_known
 returns-then-not-pattern_known c =
-    let a = c.args in
-    pattern_unknown (pattern_codes a.var) a.b.now a.at (get_or a.b.now a.at 0) refl (omega arith) (sym c.pattern_known.ensures ∙ c.if-not-pattern_known.true)
+    pattern_unknown (pattern_codes c.args.var) c.args.b.now c.args.at c.in_ok-c.field-0.now (search rules) (search rules) (sym c.pattern_known.ensures ∙ c.if-not-pattern_known.true)
 
-pub returns-then-b-at-2 : goal.returns-then-b-at-2
-returns-then-b-at-2 c =
-    let a = c.args in
-    pattern_cut (pattern_codes a.var) a.b.now a.at (get_or a.b.now a.at 0) refl (omega arith) (sym c.pattern_known.ensures ∙ c.if-not-pattern_known.false) (omega arith)
+pub returns-then-b-at : goal.returns-then-b-at
+returns-then-b-at c =
+    pattern_cut (pattern_codes c.args.var) c.args.b.now c.args.at c.in_ok-c.field-0.now (search rules) (search rules) (sym c.pattern_known.ensures ∙ c.if-not-pattern_known.false) (omega arith)
 
 pub returns : goal.returns
 returns c =
-    let a = c.args in
-    ap (λ (n : ℕ). Some (a.at + n)) c.pattern_size-n.ensures
-    ∙ pattern_whole (pattern_codes a.var) a.b.now a.at (get_or a.b.now a.at 0) refl (omega arith) (sym c.pattern_known.ensures ∙ c.if-not-pattern_known.false) (omega arith)
+    let known = sym c.pattern_known.ensures ∙ c.if-not-pattern_known.false in
+    ap (λ (n : ℕ). Some (c.args.at + n)) c.pattern_size-n.ensures
+    ∙ pattern_whole (pattern_codes c.args.var) c.args.b.now c.args.at c.in_ok-c.field-0.now (search rules) (search rules) known (omega arith)
