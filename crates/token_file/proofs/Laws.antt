@@ -1,5 +1,6 @@
 -- The fields of a token file, one after another.
 -- Assumes nothing.
+use Rattle.std.specs.Prelude.{Option, None, Some}
 use Prim.Native.Nat.{ℕ, zero, suc, ◌+◌, ◌*◌, ◌/◌, ◌≤◌, ◌<◌}
 use mathlib.Core.Path.{◌≡◌, refl, sym, ap, ap₂, ◌∙◌}
 use mathlib.Core.Bool.{Bool, true, false}
@@ -13,13 +14,12 @@ use borrow.Author.Tests.{le-leb, lt-leb}
 use Rattle.model.specs.declared.Ty.{Ty}
 use Rattle.model.specs.declared.Token.{Token}
 use Rattle.model.specs.declared.Field.{Field}
-use Rattle.model.specs.declared.Field.TheVariants.{At, Cut}
 use Rattle.model.specs.Bytes.{two_at, four_at, value_at, stretch}
 use Rattle.model.specs.Values.{no_type}
 use Rattle.model.specs.Network.{Net, wire, proc, no_token}
 use Rattle.model.specs.NetworkFile.{good, refuse, or_refuse, field_at, body_at, input_at, net_of}
 use Rattle.model.specs.States.{token_at, read_tokens, token_field, tokens_in, input_tokens, tokens_from, token_file, input_types}
-use Rattle.model.proofs.Accepted.{InFile}
+use Rattle.model.proofs.Accepted.{InFile, field_found}
 use Rattle.model.proofs.Decoded.{length-tabulate, get_d_tabulate, get_d_map_lt, stretch_at, length_body}
 use Rattle.model.proofs.Lookup.{input_proc}
 use Rattle.model.proofs.Sizes.{map-append}
@@ -30,65 +30,67 @@ use Rattle.lookup.specs.Ends.{wire_at}
 use Rattle.lookup.proofs.Tabled.{n_boxes, n_inputs}
 use Rattle.places.specs.Standing.{bare_net, found, tokens_of}
 use Rattle.tokens.proofs.Turns.{ahead_none, left, tokens_field, tokens_bad, tokens_cut, tokens_end, tokens_extra, input_types_lem}
-use Rattle.tokens.proofs.Groups.{field_inside, length_tokens_in}
+use Rattle.tokens.proofs.Groups.{length_tokens_in}
 use Rattle.token_file.specs.Fields.{field_end, Fields}
 
 -- ── one field ────────────────────────────────────────────────────────────────────────────────
 
 module _ (f : List ℕ) (t : Ty) (at : ℕ) where
-  abbrev pub end_of : ℕ
+  abbrev pub end_of : Option ℕ
   end_of = field_end (input_tokens t f at (field_at f at))
 
-  pub end_cut : field_at f at ≡ Cut → 0 ≡ end_of
+  pub end_cut : field_at f at ≡ None → None ≡ end_of
   unfolding field_end input_tokens
   end_cut e = rw e
 
-  pub end_bad : (tag start len : ℕ) → field_at f at ≡ At tag start len → token_field t tag (stretch f start len) ≡ false → 0 ≡ end_of
-  unfolding field_end input_tokens or_refuse
-  end_bad tag start len e g = rw (e, g)
+  module _ (d : Field) (e : field_at f at ≡ Some d) where
+    pub end_bad : token_field t d.tag (stretch f d.start d.len) ≡ false → None ≡ end_of
+    unfolding field_end input_tokens or_refuse
+    end_bad g = rw (e, g)
 
-  pub end_good : (tag start len : ℕ) → field_at f at ≡ At tag start len → token_field t tag (stretch f start len) ≡ true → start + len ≡ end_of
-  unfolding field_end input_tokens or_refuse
-  end_good tag start len e g = rw (e, g)
+    pub end_good : token_field t d.tag (stretch f d.start d.len) ≡ true → Some (d.start + d.len) ≡ end_of
+    unfolding field_end input_tokens or_refuse
+    end_good g = rw (e, g)
 
 -- the field there is good, and ends there
 pub record Went (types : List Ty) (f : List ℕ) (before : List (List Token)) (i at end : ℕ) : Type 0 where
   pub more : left types f before i at ≡ left types f (before ++ (tokens_in (body_at f at) ∷ [])) (i + 1) end
   pub inside : InFile f at
   pub below : end ≤ length f
-  pub above : at < end
 
 module _ (types : List Ty) (f : List ℕ) (before : List (List Token)) (i at : ℕ) (t : Ty) (l : i < length types) (e : get_or types i no_type ≡ t) where
-  pub end_zero : (r : ℕ) → r ≡ end_of f t at → r ≡ 0 → left types f before i at ≡ refuse 5 at
-  end_zero r p z = by_field (field_at f at) refl
-    where
-      by_test : (tag start len : ℕ) (b : Bool) → field_at f at ≡ At tag start len → token_field t tag (stretch f start len) ≡ b → left types f before i at ≡ refuse 5 at
-      by_test tag start len true g q = let k = field_inside f tag start len at g in absurd (omega (arith, end_good f t at tag start len g q, p, z, k.starts))
-      by_test tag start len false g q = tokens_bad types f before i at tag start len l g (ap (λ (u : Ty). token_field u tag (stretch f start len)) e ∙ q)
+  type_same : (d : Field) (b : Bool) → token_field t d.tag (stretch f d.start d.len) ≡ b → token_field (get_or types i no_type) d.tag (stretch f d.start d.len) ≡ b
+  type_same d b q = ap (λ (u : Ty). token_field u d.tag (stretch f d.start d.len)) e ∙ q
 
-      by_field : (d : Field) → field_at f at ≡ d → left types f before i at ≡ refuse 5 at
-      by_field Cut g = tokens_cut types f before i at l g
-      by_field (At tag start len) g = by_test tag start len (token_field t tag (stretch f start len)) g refl
-
-  pub end_some : (r : ℕ) → r ≡ end_of f t at → (r ≡ 0 → ⊥) → Went types f before i at r
-  end_some r p z = by_field (field_at f at) refl
+  pub end_none : None ≡ end_of f t at → left types f before i at ≡ refuse 5 at
+  end_none p = by_field (field_at f at) refl
     where
-      by_test : (tag start len : ℕ) (b : Bool) → field_at f at ≡ At tag start len → token_field t tag (stretch f start len) ≡ b → Went types f before i at r
-      by_test tag start len true g q =
-          let k = field_inside f tag start len at g in
-          let m : start + len ≡ r = end_good f t at tag start len g q ∙ sym p in
+      by_test : (d : Field) (b : Bool) → field_at f at ≡ Some d → token_field t d.tag (stretch f d.start d.len) ≡ b → left types f before i at ≡ refuse 5 at
+      by_test d true g q = let z = p ∙ sym (end_good f t at d g q) in cc
+      by_test d false g q = tokens_bad types f before i at d l g (type_same d false q)
+
+      by_field : (d : Option Field) → field_at f at ≡ d → left types f before i at ≡ refuse 5 at
+      by_field None g = tokens_cut types f before i at l g
+      by_field (Some d) g = by_test d (token_field t d.tag (stretch f d.start d.len)) g refl
+
+  pub end_some : (r : ℕ) → Some r ≡ end_of f t at → Went types f before i at r
+  end_some r p = by_field (field_at f at) refl
+    where
+      by_test : (d : Field) (b : Bool) → field_at f at ≡ Some d → token_field t d.tag (stretch f d.start d.len) ≡ b → Went types f before i at r
+      by_test d true g q =
+          let k = field_found f d at g in
+          let z = end_good f t at d g q ∙ sym p in
+          let m : d.start + d.len ≡ r = cc in
           record {
-            more = tokens_field types f before i at tag start len l g (ap (λ (u : Ty). token_field u tag (stretch f start len)) e ∙ q)
-                ∙ ap₂ (λ (b : List ℕ) (o : ℕ). left types f (before ++ (tokens_in b ∷ [])) (i + 1) o) k.body m;
-            inside = record { whole = omega (arith, k.starts, k.long, k.ends) };
+            more = tokens_field types f before i at d l g (type_same d true q) ∙ ap₂ (λ (b : List ℕ) (o : ℕ). left types f (before ++ (tokens_in b ∷ [])) (i + 1) o) k.body m;
+            inside = k.inside;
             below = omega (arith, k.ends, m);
-            above = omega (arith, k.starts, m);
           }
-      by_test tag start len false g q = absurd (z (p ∙ sym (end_bad f t at tag start len g q)))
+      by_test d false g q = let z : ◌≡◌ {A = Option ℕ} None (Some r) = end_bad f t at d g q ∙ sym p in let y : ◌≡◌ {A = ℕ} 0 1 = cc in absurd (omega arith)
 
-      by_field : (d : Field) → field_at f at ≡ d → Went types f before i at r
-      by_field Cut g = absurd (z (p ∙ sym (end_cut f t at g)))
-      by_field (At tag start len) g = by_test tag start len (token_field t tag (stretch f start len)) g refl
+      by_field : (d : Option Field) → field_at f at ≡ d → Went types f before i at r
+      by_field None g = let z : ◌≡◌ {A = Option ℕ} None (Some r) = end_cut f t at g ∙ sym p in let y : ◌≡◌ {A = ℕ} 0 1 = cc in absurd (omega arith)
+      by_field (Some d) g = by_test d (token_field t d.tag (stretch f d.start d.len)) g refl
 
 -- ── the fields noted so far ──────────────────────────────────────────────────────────────────
 
@@ -130,8 +132,11 @@ module _ (s t : List ℕ) (c : Counts) (h : Tabled s t c) where
   abbrev n : Net
   n = net_of s (index_in t c) []
 
-  pub types_length : length (types_of s t c) ≡ c.inputs
+  types_length : length (types_of s t c) ≡ c.inputs
   types_length = ap (λ (l : List Ty). length l) (input_types_lem n s (index_in t c) []) ∙ length-tabulate (length (index_in t c).inputs) _ ∙ n_inputs s t c h
+
+  pub types_known : (i : ℕ) → i < c.inputs → i < length (types_of s t c)
+  types_known i l = omega (arith, types_length)
 
   -- the type of input i is that of its wire
   pub type_at_lem : (i w : ℕ) (y : Ty) → i < c.inputs → w ≡ wire_at (proc n (c.boxes + i)) → y ≡ (wire n w).ty → get_or (types_of s t c) i no_type ≡ y
