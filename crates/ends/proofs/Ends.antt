@@ -12,7 +12,7 @@ use borrow.Author.Tests.{ne_eqb, lt-ltb, le-ltb}
 use Rattle.model.specs.declared.Token.{Token}
 use Rattle.model.specs.Bytes.{two_at}
 use Rattle.model.specs.Network.{input, output, Net, State, wire, proc, queue, own, taken_of, got_of}
-use Rattle.model.specs.NetworkFile.{Index, hit, net_of}
+use Rattle.model.specs.NetworkFile.{Index, net_of}
 use Rattle.model.specs.States.{wire_bytes, own_bytes}
 use Rattle.model.specs.Cycles.{empty, full, flag, mark_of, mark, marked}
 use Rattle.table.specs.declared.Counts.{Counts}
@@ -71,11 +71,6 @@ module _ (n : Net) (s : State) (k : ℕ) where
 
 -- ── a wire's bytes ───────────────────────────────────────────────────────────────────────────
 
-hit-zero : (b : Bool) → eqb (hit b) 0 ≡ not b
-unfolding hit
-hit-zero true = refl
-hit-zero false = refl
-
 length-zero : (q : List Token) → eqb (length q) 0 ≡ empty q
 unfolding empty
 length-zero [] = refl
@@ -94,12 +89,12 @@ module _ (s t p ts b : List ℕ) (c : Counts) (h : Standing s t p ts b c) where
   st = state_of s t c ts b
 
   -- what the bytes of wire v show
-  module _ (w v a : ℕ) (part : List ℕ) (d : w ≡ v) (e : part ≡ wire_bytes (wire n w) (queue st w)) where
-    pub not_full : a ≡ full_in part → eqb a 0 ≡ not (full n st v)
-    not_full q = ap (λ (y : ℕ). eqb y 0) (q ∙ ap full_in e ∙ full_is n st w ((state_good s t p ts b c h).most w)) ∙ hit-zero (full n st w) ∙ ap (λ (u : ℕ). not (full n st u)) d
+  module _ (w v : ℕ) (part : List ℕ) (d : w ≡ v) (e : part ≡ wire_bytes (wire n w) (queue st w)) where
+    pub not_full : (f : Bool) → f ≡ full_in part → not f ≡ not (full n st v)
+    not_full f q = ap not (q ∙ ap full_in e ∙ full_is n st w ((state_good s t p ts b c h).most w) ∙ ap (full n st) d)
 
-    pub not-empty : a ≡ get_or part 0 0 → not (eqb a 0) ≡ not (empty (queue st v))
-    not-empty q =
+    pub not_empty : (a : ℕ) → a ≡ get_or part 0 0 → not (eqb a 0) ≡ not (empty (queue st v))
+    not_empty a q =
         ap (λ (y : ℕ). not (eqb y 0)) (q ∙ ap (λ (y : List ℕ). get_or y 0 0) e ∙ wire_count (wire n w) (queue st w))
         ∙ ap not (length-zero (queue st w))
         ∙ ap (λ (u : ℕ). not (empty (queue st u))) d

@@ -6,77 +6,52 @@ ghost use Rattle.model.specs.Bytes.{two_at};
 ghost use Rattle.model.specs.Network.{proc, own};
 ghost use Rattle.model.specs.States.{own_bytes};
 ghost use Rattle.model.specs.Cycles.{mark, marked};
-ghost use Rattle.places.specs.Standing.{net_in, Standing, state_of};
-ghost use Rattle.token_file.specs.Fields.{Fields};
+ghost use Rattle.places.specs.Views.{net_at, state_at, Stands};
 
 use model::ProcessId;
-use table::Counts;
+use places::Site;
+use token_file::Feed;
 
 // The count that the bytes of an input and of an output begin with.
-fn own_count(
-    net: &[u8],
-    table: &[u16],
-    c: Counts,
-    starts: &[u16],
-    tokens: &[u8],
-    k: ProcessId,
-    state: &[u8],
-) -> usize
-    requires standing { Standing net.now table.now starts.now tokens.now state.now c }
-    requires k_bound { k.0 < c.boxes + c.inputs + c.outputs }
-    ensures { result ≡ two_at (own_bytes (proc (net_in net.now table.now c tokens.now) k.0) (own (state_of net.now table.now c tokens.now state.now) k.0)) 0 }
+fn own_count(site: &Site, k: ProcessId, state: &[u8]) -> usize
+    requires standing { Stands site.now state.now }
+    requires k_bound { k.0 < site.now.plan.net.counts.boxes + site.now.plan.net.counts.inputs + site.now.plan.net.counts.outputs }
+    ensures { result ≡ two_at (own_bytes (proc (net_at site.now) k.0) (own (state_at site.now state.now) k.0)) 0 }
 {
-    let part = sights::own_part(net, table, c, starts, tokens, k, state);
+    let part = sights::own_part(site, k, state);
     octets::two_at(part, 0)
 }
 
 // An input: tokens left, and its wire not full.
-pub fn input_marked(
-    net: &[u8],
-    table: &[u16],
-    c: Counts,
-    starts: &[u16],
-    tokens: &[u8],
-    fields: &[u16],
-    k: ProcessId,
-    state: &[u8],
-) -> bool
-    requires standing { Standing net.now table.now starts.now tokens.now state.now c }
-    requires fields { Fields net.now table.now tokens.now fields.now c }
-    requires boxes_le_k { c.boxes ≤ k.0 }
-    requires k_bound { k.0 < c.boxes + c.inputs }
-    ensures { result ≡ marked (mark (net_in net.now table.now c tokens.now) (state_of net.now table.now c tokens.now state.now) k.0) }
+pub fn input_marked(feed: &Feed, k: ProcessId, state: &[u8]) -> bool
+    requires standing { Stands feed.now.site state.now }
+    requires boxes_le_k { feed.now.site.plan.net.counts.boxes ≤ k.0 }
+    requires k_bound { k.0 < feed.now.site.plan.net.counts.boxes + feed.now.site.plan.net.counts.inputs }
+    ensures { result ≡ marked (mark (net_at feed.now.site) (state_at feed.now.site state.now) k.0) }
 {
-    let i = octets::wide(k.0) - c.boxes;
-    let taken = own_count(net, table, c, starts, tokens, k, state);
-    if token_file::input_count(tokens, fields, i) <= taken {
+    let site = &feed.site;
+    let net = &site.plan.net;
+    let i = usize::from(k.0) - net.counts.boxes;
+    let taken = own_count(site, k, state);
+    if feed.input_count(i) <= taken {
         return false;
     }
-    let w = lookup::input_wire(net, table, c, k);
-    let part = sights::wire_part(net, table, c, starts, tokens, w, state);
-    sights::is_full(part) == 0
+    let part = sights::wire_part(site, net.input_wire(k), state);
+    !sights::is_full(part)
 }
 
 // An output: its wire not empty, and room left.
-pub fn output_marked(
-    net: &[u8],
-    table: &[u16],
-    c: Counts,
-    starts: &[u16],
-    tokens: &[u8],
-    k: ProcessId,
-    state: &[u8],
-) -> bool
-    requires standing { Standing net.now table.now starts.now tokens.now state.now c }
-    requires inputs_bound { c.boxes + c.inputs ≤ k.0 }
-    requires k_bound { k.0 < c.boxes + c.inputs + c.outputs }
-    ensures { result ≡ marked (mark (net_in net.now table.now c tokens.now) (state_of net.now table.now c tokens.now state.now) k.0) }
+pub fn output_marked(site: &Site, k: ProcessId, state: &[u8]) -> bool
+    requires standing { Stands site.now state.now }
+    requires inputs_bound { site.now.plan.net.counts.boxes + site.now.plan.net.counts.inputs ≤ k.0 }
+    requires k_bound { k.0 < site.now.plan.net.counts.boxes + site.now.plan.net.counts.inputs + site.now.plan.net.counts.outputs }
+    ensures { result ≡ marked (mark (net_at site.now) (state_at site.now state.now) k.0) }
 {
-    let got = own_count(net, table, c, starts, tokens, k, state);
-    if lookup::room(net, table, c, k) <= got {
+    let net = &site.plan.net;
+    let got = own_count(site, k, state);
+    if net.room(k) <= got {
         return false;
     }
-    let w = lookup::output_wire(net, table, c, k);
-    let part = sights::wire_part(net, table, c, starts, tokens, w, state);
+    let part = sights::wire_part(site, net.output_wire(k), state);
     queues::count(part) != 0
 }
