@@ -175,17 +175,12 @@ fn action_fits(b: &[u8], at: usize, t: Ty, types: &[u8; 16]) -> Result<(), usize
     requires b_value { sent_limits (drop at b.now) ≡ true }
     ensures { result ≡ fitting_of (action_fits (scope_in types.now) at t (action_at (drop at b.now))) }
 {
-    let c = octets::byte_at(b, at);
-    if c == 0 {
-        return Ok(());
+    match octets::byte_at(b, at) {
+        0 => Ok(()),
+        1 => sent_fits(b, at, 0, t, types),
+        5 => sent_fits(b, at, 3, t, types),
+        c => fit_if(values::tag_fits(t, c - 2), at),
     }
-    if c == 1 {
-        return sent_fits(b, at, 0, t, types);
-    }
-    if c == 5 {
-        return sent_fits(b, at, 3, t, types);
-    }
-    fit_if(values::tag_fits(t, c - 2), at)
 }
 
 // The n actions from an offset on fit the first types of a table. What can be a variable's can be an output's.
@@ -249,8 +244,7 @@ fn actions_keep(b: &[u8], from: usize, n: usize) -> Result<(), usize>
     let mut at = from;
     for _ in 0..n {
         if !rules::action_limits(b, at) {
-            let over = at + 1;
-            return Err(over);
+            return Err(at + 1);
         }
         at = rules::skip_action(b, at);
     }

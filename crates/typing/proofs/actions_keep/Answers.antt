@@ -18,8 +18,8 @@ loop-init c =
       left = ap (λ j. left_keep false a.b.now j a.from) (minus_zero a.n);
     }
 
-pub overflow_add-over : goal.overflow_add-over
-overflow_add-over c =
+pub overflow_add-result : goal.overflow_add-result
+overflow_add-result c =
     let a = c.args in
     let i = c.loop in
     omega (arith, action_within false a.b.now (a.n - i.counter) i.at (omega arith) i.invariant.there)
