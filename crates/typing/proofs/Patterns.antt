@@ -35,14 +35,6 @@ pub fits_zero : (t : Ty) (c : ℕ) (z : ℤ) → c ≡ 0 → true ≡ pattern_fi
 unfolding pattern_of pattern_fits
 fits_zero t c z e = rw e
 
-pub tag_low : (c : ℕ) → c ≤ 2 → 0 ≡ tag_of c
-unfolding tag_of
-tag_low c h = rw (le-leb c 2 h)
-
-pub tag-mark : (c : ℕ) → 3 ≤ c → c ≤ 5 → c - 2 ≡ tag_of c
-unfolding tag_of
-tag-mark c h g = rw (lt-leb c 2 h, le-leb c 5 g)
-
 pub tag_data : (c : ℕ) → 6 ≤ c → 3 ≡ tag_of c
 unfolding tag_of
 tag_data c h = rw (lt-leb c 2 (omega arith), lt-leb c 5 h)

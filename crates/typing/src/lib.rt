@@ -26,6 +26,7 @@ pub struct RuleFault {
 }
 
 // Fits, or fails there.
+#[tactic(auto, unfolding(crate::specs::Fits::fitting_of, model::specs::Rules::fit_if))]
 fn fit_if(ok: bool, at: usize) -> Result<(), usize>
     ensures { result ≡ fitting_of (fit_if ok at) }
 {
@@ -41,6 +42,7 @@ fn entry(types: &[u8], k: usize) -> Ty
 }
 
 // The tag of a pattern code other than 0.
+#[tactic(auto, unfolding(crate::specs::Fits::tag_of))]
 pub fn pattern_tag(c: u8) -> u8
     ensures { result ≡ tag_of c }
 {
@@ -109,6 +111,7 @@ fn matched_type(b: &[u8], n: usize, ins: &[u8], k: usize) -> Ty
 }
 
 // The type of variable k of n.
+#[tactic(auto, using(crate::proofs::Patterns::types_none, crate::proofs::Patterns::types_at), unfolding(model::specs::Values::no_type))]
 fn variable_type(vars: &[u8], n: usize, k: usize) -> Ty
     requires { n ≤ 4 }
     ensures { result ≡ get_or (types_in vars.now n) k no_type }

@@ -1,21 +1,10 @@
 use mathlib.Core.Path.{◌≡◌, refl, sym, ap, ◌∙◌}
 use mathlib.Core.Bool.{false}
-use Prim.Native.Nat.{ℕ, ◌+◌, ◌-◌}
+use Prim.Native.Nat.{◌+◌, ◌-◌}
 use native.Mathlib.Omega.{arith}
-use Rattle.expressions.specs.Reading.{is_read}
-use Rattle.rules.specs.Bodies.{actions_from}
 use Rattle.typing.proofs.Actions.{action_first}
 use Rattle.matching.proofs.Laws.{left, rest_there, left_none, left_shut, left_more}
 use Rattle.matching.proofs.outs_open.Goals as goal
-
-pub loop-k-init : goal.loop-k-init
-loop-k-init c =
-    let a = c.args in
-    let z : a.n - 0 ≡ a.n = omega arith in
-    record {
-      there = ap (λ (m : ℕ). is_read (actions_from false m a.from a.b.now)) z ∙ c.requires;
-      left = ap (left a.full.now a.b.now 0 a.from) z;
-    }
 
 pub returns-then-c-f : goal.returns-then-c-f
 returns-then-c-f c =

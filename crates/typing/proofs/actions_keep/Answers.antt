@@ -5,18 +5,9 @@ use native.Mathlib.Omega.{arith}
 use Rattle.expressions.specs.Reading.{is_read}
 use Rattle.rules.specs.Bodies.{actions_from}
 use Rattle.typing.specs.Fits.{fitting_of}
-use Rattle.typing.proofs.Patterns.{minus_zero}
 use Rattle.typing.proofs.Actions.{action_first, action_within, action_next}
 use Rattle.typing.proofs.Keeping.{left_keep, keep_none, keep_read, keep_fail, keep_more}
 use Rattle.typing.proofs.actions_keep.Goals as goal
-
-pub loop-init : goal.loop-init
-loop-init c =
-    let a = c.args in
-    record {
-      there = ap (λ j. is_read (actions_from false j a.from a.b.now)) (minus_zero a.n) ∙ c.requires;
-      left = ap (λ j. left_keep false a.b.now j a.from) (minus_zero a.n);
-    }
 
 pub overflow_add-result : goal.overflow_add-result
 overflow_add-result c =

@@ -25,11 +25,11 @@ returns-in_err-actions_fit c =
     also_fail _ _ _ (sym c.in_err-actions_fit.was ∙ c.actions_fit.ensures)
     ∙ ap fitting_of (sym (also_on _ _ (sym c.in_ok-guard_fits.was ∙ c.guard_fits.ensures))))
 
-pub actions_fit-requires-2 : goal.actions_fit-requires-2
-actions_fit-requires-2 c =
+pub actions_fit-requires-2-clause-b_value : goal.actions_fit-requires-2-clause-b_value
+actions_fit-requires-2-clause-b_value c =
     let a = c.args in
     let k = c.requires.kept.sets in
-    record { n_bound = c.requires.outs_bound.1; b_value = ap limits_of (outputs_too a.a.vars a.p.sets a.b.now (limits_read_lem _ k)) ∙ k }
+    ap limits_of (outputs_too a.a.vars a.p.sets a.b.now (limits_read_lem _ k)) ∙ k
 
 pub returns : goal.returns
 unfolding expressions_fit

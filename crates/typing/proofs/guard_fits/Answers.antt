@@ -1,9 +1,5 @@
 use mathlib.Core.Path.{sym, ap, ◌∙◌}
-use mathlib.Core.List.{List}
-use Prim.Native.Nat.{ℕ}
 use native.Mathlib.Omega.{arith}
-use Rattle.model.specs.Expressions.{expression}
-use Rattle.expressions.specs.Reading.{limits_read}
 use Rattle.types.specs.Scopes.{scope_in}
 use Rattle.rules.proofs.Ends.{part_is}
 use Rattle.typing.specs.Fits.{fitting_of}
@@ -15,10 +11,6 @@ slice_bounds-type_of-count c = omega (arith, exp_there c.args.b.now c.args.at c.
 
 pub slice_bounds-type_of-start : goal.slice_bounds-type_of-start
 slice_bounds-type_of-start c = omega (arith, exp_there c.args.b.now c.args.at c.requires)
-
-pub type_of-requires : goal.type_of-requires
-type_of-requires c =
-    ap (λ (x : List ℕ). limits_read (expression x)) (part_is c.args.b.now c.args.at) ∙ c.requires
 
 pub overflow_add-result : goal.overflow_add-result
 overflow_add-result c =

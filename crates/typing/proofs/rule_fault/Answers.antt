@@ -8,19 +8,16 @@ use Rattle.typing.proofs.rule_fault.Goals as goal
 pub returns-in_default : goal.returns-in_default
 returns-in_default c = fault_form _ _ _ _ _ _ _ (sym c.in_default.is ∙ c.parts_of.ensures) c.read_to.ensures
 
-pub limits-requires : goal.limits-requires
-limits-requires c = sym c.parts_of.ensures ∙ c.in-Some.is
-
 pub returns-in_err-map_err : goal.returns-in_err-map_err
 returns-in_err-map_err c =
     let p = err_from_is_err_and c.from_residual.result c.from_residual.ensures.1 in
     rw (p.1, p.2) (fault_limits _ _ _ _ _ _ _ (sym c.in-Some.is ∙ c.parts_of.ensures) _ (sym (where_is Limits _ _ _ _ c.limits.ensures (λ k x h. search rules) c.map_err.ensures.cases) ∙ c.in_err-map_err.was))
 
-pub types_fit-requires : goal.types_fit-requires
-types_fit-requires c =
+pub types_fit-requires-clause-kept : goal.types_fit-requires-clause-kept
+types_fit-requires-clause-kept c =
     let e = sym c.in-Some.is ∙ c.parts_of.ensures in
     let l = sym (where_is Limits _ _ _ _ c.limits.ensures (λ k x h. search rules) c.map_err.ensures.cases) ∙ c.in_ok-map_err.was in
-    record { ins_bound = c.requires.ins_bound; precise = c.requires.precise; b_value = sym e; kept = kept c.args.ins.now c.args.outs.now c.args.vars.now _ _ _ _ e l }
+    kept c.args.ins.now c.args.outs.now c.args.vars.now _ _ _ _ e l
 
 pub returns : goal.returns
 returns c =

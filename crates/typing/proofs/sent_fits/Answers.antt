@@ -1,18 +1,11 @@
 use mathlib.Core.Path.{sym, ap, ◌∙◌}
-use mathlib.Core.List.{List}
-use Prim.Native.Nat.{ℕ, ◌+◌}
+use Prim.Native.Nat.{◌+◌}
 use native.Mathlib.Omega.{arith}
-use Rattle.model.specs.Expressions.{expression}
-use Rattle.expressions.specs.Reading.{limits_read}
 use Rattle.types.specs.Scopes.{scope_in}
 use Rattle.rules.proofs.Ends.{part_is}
 use Rattle.typing.specs.Fits.{fitting_of}
 use Rattle.typing.proofs.Scoping.{part_typed, part_ill, part_inside, sent_typed_lem, sent_ill}
 use Rattle.typing.proofs.sent_fits.Goals as goal
-
-pub type_of-requires : goal.type_of-requires
-type_of-requires c =
-    ap (λ (x : List ℕ). limits_read (expression x)) (part_is c.args.b.now (c.args.at + 1)) ∙ c.requires.b_value
 
 pub overflow_add-result : goal.overflow_add-result
 overflow_add-result c =

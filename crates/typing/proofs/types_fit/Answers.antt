@@ -7,10 +7,10 @@ use Rattle.typing.proofs.Patterns.{inputs_too}
 use Rattle.typing.proofs.Wholes.{also_fail, also_on, rule_fits_lem, ins_read, vars_read, vars_fit, expressions_same}
 use Rattle.typing.proofs.types_fit.Goals as goal
 
-pub patterns_fit-requires : goal.patterns_fit-requires
-patterns_fit-requires c =
+pub patterns_fit-requires-clause-b_value : goal.patterns_fit-requires-clause-b_value
+patterns_fit-requires-clause-b_value c =
     let a = c.args in
-    record { n_bound = c.requires.ins_bound.0; b_value = ins_read a.a a.b.now a.p (laid a.a a.b.now a.p c.requires.b_value); precise = c.requires.precise.0 }
+    ins_read a.a a.b.now a.p (laid a.a a.b.now a.p c.requires.b_value)
 
 pub returns-in_err-patterns_fit : goal.returns-in_err-patterns_fit
 returns-in_err-patterns_fit c =
@@ -20,11 +20,11 @@ returns-in_err-patterns_fit c =
     also_fail _ _ _ (sym c.in_err-patterns_fit.was ∙ c.patterns_fit.ensures)
     ∙ ap fitting_of (sym (rule_fits_lem a.ins.now a.outs.now a.vars.now a.b.now a.a a.p (laid a.a a.b.now a.p c.requires.b_value))))
 
-pub patterns_fit-requires-2 : goal.patterns_fit-requires-2
-patterns_fit-requires-2 c =
+pub patterns_fit-requires-2-clause-b_value : goal.patterns_fit-requires-2-clause-b_value
+patterns_fit-requires-2-clause-b_value c =
     let a = c.args in
     let there = vars_read a.a a.b.now a.p (laid a.a a.b.now a.p c.requires.b_value) in
-    record { n_bound = c.requires.ins_bound.2; b_value = ap is_read (inputs_too a.a.vars a.p.vars a.b.now there) ∙ there; precise = c.requires.precise.1 }
+    ap is_read (inputs_too a.a.vars a.p.vars a.b.now there) ∙ there
 
 pub returns-in_err-patterns_fit-2 : goal.returns-in_err-patterns_fit-2
 returns-in_err-patterns_fit-2 c =
@@ -37,11 +37,10 @@ returns-in_err-patterns_fit-2 c =
     sym (also_on _ _ (sym c.in_ok-patterns_fit.was ∙ c.patterns_fit.ensures))
     ∙ sym (rule_fits_lem a.ins.now a.outs.now a.vars.now a.b.now a.a a.p x)))
 
-pub scope-types-requires : goal.scope-types-requires
-scope-types-requires c =
+pub scope-types-requires-clause-b_value : goal.scope-types-requires-clause-b_value
+scope-types-requires-clause-b_value c =
     let a = c.args in
-    let x = laid a.a a.b.now a.p c.requires.b_value in
-    record { ins_bound = (c.requires.ins_bound.0, c.requires.ins_bound.2); b_value = ins_read a.a a.b.now a.p x }
+    ins_read a.a a.b.now a.p (laid a.a a.b.now a.p c.requires.b_value)
 
 pub returns : goal.returns
 returns c =
