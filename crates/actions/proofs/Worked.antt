@@ -8,9 +8,9 @@ use native.Mathlib.Omega.{arith}
 use lib.IntN.{ℤ, pos}
 use lib.ListN.{get_or, length}
 use Rattle.model.specs.declared.Ty.{Ty}
-use Rattle.model.specs.declared.Outcome.{Outcome}
-use Rattle.model.specs.declared.Outcome.TheVariants.{Value, Fault}
-use Rattle.model.specs.Values.{no_type, is_plain, is_bool, is_true, carried}
+use Rattle.std.specs.Prelude.{Result, Ok, Err, ⊤}
+use Rattle.model.specs.declared.Fault.{Fault}
+use Rattle.model.specs.Values.{Outcome, no_type, is_plain, is_bool, is_true, carried}
 use Rattle.model.specs.Expressions.{Exp, literal, matched, variable, cast, one, two, if, Scope, Typed, typed, ill, type_of, Env, then, value_of}
 use Rattle.model.specs.Rules.{Action, nothing, bare, send, Rule, Shape, fits, guard_fits, action_fits, actions_fit, patterns_fit, size_of_action, scope_of, rule_fits}
 use Rattle.model.specs.Rules as fit
@@ -22,7 +22,6 @@ use Rattle.types.proofs.Judging.{operand_typed}
 use Rattle.evaluation.proofs.Sound.{judged_true}
 use Rattle.typing.specs.Fits.{Agree}
 use Rattle.typing.proofs.Scoping.{type_same}
-use Rattle.actions.specs.declared.Faults.{Faults}
 use Rattle.actions.specs.Acts.{is_type, has_type, sent_typed, all_typed, fault_in, fault_of, or_fault, faults_of, mark_or}
 
 -- the same types by number, and the same value of each input and variable that may be named
@@ -36,8 +35,8 @@ unfolding then
 then_same x y f g e h = ap (λ (o : Outcome). then o f) e ∙ go y
   where
     go : (o : Outcome) → then o f ≡ then o g
-    go (Value t a) = h t a
-    go (Fault n) = refl
+    go (Ok v) = h v.ty v.value
+    go (Err x) = refl
 
 module _ (en en' : Env) (same : Alike en en') where
   pub value_same : (e : Exp) (t : Ty) → type_of en.scope e ≡ typed t → value_of en e ≡ value_of en' e
@@ -110,10 +109,10 @@ module _ (en en' : Env) (same : Alike en en') where
 
 -- ── the mark that faults leave ───────────────────────────────────────────────────────────────
 
-mark_held : (o : Outcome) (f : Faults) (m : Mark) → faultless o (mark_or f m) ≡ mark_or (or_fault (fault_in o) f) m
+mark_held : (o : Outcome) (f : Result ⊤ Fault) (m : Mark) → faultless o (mark_or f m) ≡ mark_or (or_fault (fault_in o) f) m
 unfolding faultless mark_or or_fault fault_in
-mark_held (Value t z) f m = refl
-mark_held (Fault n) f m = refl
+mark_held (Ok v) f m = refl
+mark_held (Err x) f m = refl
 
 pub faults_mark : (en : Env) (xs : List Action) (m : Mark) → actions_of en xs m ≡ mark_or (faults_of en xs) m
 unfolding actions_of faults_of fault_of or_fault mark_or
@@ -123,7 +122,7 @@ faults_mark en (bare t ∷ xs) m = faults_mark en xs m
 faults_mark en (send t e ∷ xs) m = ap (faultless (value_of en e)) (faults_mark en xs m) ∙ mark_held (value_of en e) (faults_of en xs) m
 
 pub actions_same : (en en' : Env) → Alike en en' → (xs : List Action) (m : Mark) → all_typed en.scope xs ≡ true → actions_of en xs m ≡ actions_of en' xs m
-actions_same en en' same xs m h = faults_mark en xs m ∙ ap (λ (f : Faults). mark_or f m) (faults_same en en' same xs h) ∙ sym (faults_mark en' xs m)
+actions_same en en' same xs m h = faults_mark en xs m ∙ ap (λ (f : Result ⊤ Fault). mark_or f m) (faults_same en en' same xs h) ∙ sym (faults_mark en' xs m)
 
 -- a chosen rule by the faults of its output actions, then of its variable actions
 pub chosen_faults : (en : Env) (r : Rule) (k : ℕ) → chosen en r k ≡ mark_or (faults_of en r.outs) (mark_or (faults_of en r.sets) (fires k))
@@ -219,5 +218,5 @@ module _ (en en' : Env) (same : Alike en en') (r : Rule) (x : Judged en.scope r)
   guarded-same = ap (guarded en r k) (value_same en en' same r.guard x.guard_type x.guard) ∙ go (value_of en' r.guard)
     where
       go : (o : Outcome) → guarded en r k o ≡ guarded en' r k o
-      go (Value t z) = ap (attempt (is_true z)) chosen_same
-      go (Fault n) = refl
+      go (Ok v) = ap (attempt (is_true v.value)) chosen_same
+      go (Err x) = refl

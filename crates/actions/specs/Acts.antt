@@ -1,17 +1,11 @@
--- Which expressions have a type, and what the code says of a rule's actions.
+-- Which expressions have a type, and the faults of a rule's actions.
 -- Assumes nothing.
-use Rattle.std.specs.Prelude.{Bool, true, false, ◌&&◌, List, [], ◌∷◌}
-use Rattle.std.proofs.Math.Option.{Option, none, some}
-use Rattle.model.specs.declared.Token.{Token}
-use Rattle.model.specs.declared.Outcome.{Outcome}
-use Rattle.model.specs.declared.Outcome.TheVariants as outcome
+use Rattle.std.specs.Prelude.{Bool, true, false, ◌&&◌, List, [], ◌∷◌, Result, Ok, Err, ⊤}
+use Rattle.model.specs.declared.Fault.{Fault}
+use Rattle.model.specs.Values.{Outcome}
 use Rattle.model.specs.Expressions.{Exp, Scope, Typed, typed, ill, type_of, Env, value_of}
 use Rattle.model.specs.Rules.{Action, nothing, bare, send}
 use Rattle.model.specs.Cycles.{Mark, faulty}
-use Rattle.actions.specs.declared.Sending.{Sending}
-use Rattle.actions.specs.declared.Sending.TheVariants as sending
-use Rattle.actions.specs.declared.Faults.{Faults}
-use Rattle.actions.specs.declared.Faults.TheVariants as faults
 
 -- ── types ────────────────────────────────────────────────────────────────────────────────────
 
@@ -31,33 +25,27 @@ unfoldable pub all_typed : Scope → List Action → Bool  -- each expression am
 all_typed sc [] = true
 all_typed sc (x ∷ xs) = sent_typed sc x && all_typed sc xs
 
--- ── what an action sends ─────────────────────────────────────────────────────────────────────
-
-unfoldable pub sent_as : Option Token → Sending  -- as the code says it
-sent_as none = sending.Nothing
-sent_as (some t) = sending.Token t
-
 -- ── faults ───────────────────────────────────────────────────────────────────────────────────
 
-unfoldable pub fault_in : Outcome → Faults  -- the fault, if it is one
-fault_in (outcome.Value t z) = faults.Clear
-fault_in (outcome.Fault n) = faults.Fault n
+unfoldable pub fault_in : Outcome → Result ⊤ Fault  -- the fault, if it is one
+fault_in (Ok v) = Ok tt
+fault_in (Err x) = Err x
 
-unfoldable pub fault_of : Env → Action → Faults  -- of an action's expression
-fault_of en nothing = faults.Clear
-fault_of en (bare t) = faults.Clear
+unfoldable pub fault_of : Env → Action → Result ⊤ Fault  -- of an action's expression
+fault_of en nothing = Ok tt
+fault_of en (bare t) = Ok tt
 fault_of en (send t e) = fault_in (value_of en e)
 
 -- the first of two
-unfoldable pub or_fault : Faults → Faults → Faults
-or_fault faults.Clear f = f
-or_fault (faults.Fault n) f = faults.Fault n
+unfoldable pub or_fault : Result ⊤ Fault → Result ⊤ Fault → Result ⊤ Fault
+or_fault (Ok u) f = f
+or_fault (Err x) f = Err x
 
-unfoldable pub faults_of : Env → List Action → Faults  -- the first fault among actions
-faults_of en [] = faults.Clear
+unfoldable pub faults_of : Env → List Action → Result ⊤ Fault  -- the first fault among actions
+faults_of en [] = Ok tt
 faults_of en (x ∷ xs) = or_fault (fault_of en x) (faults_of en xs)
 
 -- the mark, unless a fault stands before it
-unfoldable pub mark_or : Faults → Mark → Mark
-mark_or faults.Clear m = m
-mark_or (faults.Fault n) m = faulty n
+unfoldable pub mark_or : Result ⊤ Fault → Mark → Mark
+mark_or (Ok u) m = m
+mark_or (Err x) m = faulty x

@@ -1,7 +1,7 @@
 #![tactic(auto)]
 
 // A rule's guard and actions, each worked out from the part of the rule body where it begins.
-ghost use Rattle.std.specs.Prelude.{◌≡◌, true, ◌≤◌, ◌<◌, length, drop};
+ghost use Rattle.std.specs.Prelude.{◌≡◌, true, false, ◌≤◌, ◌<◌, length, drop};
 ghost use Rattle.model.specs.Expressions.{expression, value_of};
 ghost use Rattle.model.specs.Cycles.{or_zero, result as result_of, new_var};
 ghost use Rattle.expressions.specs.Reading.{limits_read};
@@ -9,24 +9,10 @@ ghost use Rattle.types.specs.Scopes.{scope_in};
 ghost use Rattle.rules.specs.Bodies.{actions_from, sent_limits, limits_of};
 ghost use Rattle.evaluation.specs.Named.{named_by};
 ghost use Rattle.typing.specs.Fits.{exp_read, list_read, action_at};
-ghost use Rattle.actions.specs.Acts.{has_type, sent_typed, all_typed, sent_as, fault_of, faults_of};
+ghost use Rattle.actions.specs.Acts.{has_type, sent_typed, all_typed, fault_of, faults_of};
 
-use evaluation::{Env, Evaluated};
-use model::{Outcome, Token};
-
-// What an action sends.
-#[derive(Clone, Copy)]
-pub enum Sending {
-    Nothing,
-    Token { token: Token },
-}
-
-// No fault, or the number of one.
-#[derive(Clone, Copy)]
-pub enum Faults {
-    Clear,
-    Fault { number: u8 },
-}
+use evaluation::Env;
+use model::{Fault, Outcome, Token, Value};
 
 // The value of the expression at an offset.
 pub fn value(b: &[u8], at: usize, env: &Env) -> Outcome
@@ -34,52 +20,45 @@ pub fn value(b: &[u8], at: usize, env: &Env) -> Outcome
     requires b_value_2 { has_type (scope_in env.now.types) (exp_read (expression (drop at b.now))) ≡ true }
     ensures { result ≡ value_of (named_by env.now) (exp_read (expression (drop at b.now))) }
 {
-    match evaluation::value_of(&b[at..], env) {
-        Evaluated::Value { ty, value, next: _ } => Outcome::Value { ty, value },
-        Evaluated::Fault { number } => Outcome::Fault { number },
-    }
+    let v = evaluation::value_of(&b[at..], env)?;
+    Ok(Value {
+        ty: v.ty,
+        value: v.value,
+    })
 }
 
 // The value of the expression at an offset, 0 where it faults.
+#[tactic(auto, unfolding(model::specs::Cycles::or_zero))]
 fn number(b: &[u8], at: usize, env: &Env) -> i64
     requires b_value { limits_read (expression (drop at b.now)) ≡ true }
     requires b_value_2 { has_type (scope_in env.now.types) (exp_read (expression (drop at b.now))) ≡ true }
     ensures { result ≡ or_zero (value_of (named_by env.now) (exp_read (expression (drop at b.now)))) }
 {
-    match value(b, at, env) {
-        Outcome::Value { ty: _, value: z } => z,
-        Outcome::Fault { number: _ } => 0,
-    }
+    value(b, at, env).map_or(0, |v| v.value)
 }
 
 // What the action at an offset sends.
-pub fn sent(b: &[u8], at: usize, env: &Env) -> Sending
+pub fn sent(b: &[u8], at: usize, env: &Env) -> Option<Token>
     requires at_in_bounds { at < length b.now }
     requires b_value { sent_limits (drop at b.now) ≡ true }
     requires b_value_2 { sent_typed (scope_in env.now.types) (action_at (drop at b.now)) ≡ true }
-    ensures { result ≡ sent_as (result_of (named_by env.now) (action_at (drop at b.now))) }
+    ensures { result ≡ result_of (named_by env.now) (action_at (drop at b.now)) }
 {
     let c = octets::byte_at(b, at);
-    if c == 0 {
-        return Sending::Nothing;
-    }
-    if c == 1 {
-        let z = number(b, at + 1, env);
-        return Sending::Token {
-            token: Token { tag: 0, value: z },
-        };
-    }
-    if c == 5 {
-        let z = number(b, at + 1, env);
-        return Sending::Token {
-            token: Token { tag: 3, value: z },
-        };
-    }
-    Sending::Token {
-        token: Token {
+    match c {
+        0 => None,
+        1 => Some(Token {
+            tag: 0,
+            value: number(b, at + 1, env),
+        }),
+        5 => Some(Token {
+            tag: 3,
+            value: number(b, at + 1, env),
+        }),
+        _ => Some(Token {
             tag: c - 2,
             value: 0,
-        },
+        }),
     }
 }
 
@@ -98,7 +77,7 @@ pub fn kept_value(b: &[u8], at: usize, old: i64, env: &Env) -> i64
 }
 
 // The fault of the action at an offset.
-fn action_fault(b: &[u8], at: usize, env: &Env) -> Faults
+fn action_fault(b: &[u8], at: usize, env: &Env) -> Result<(), Fault>
     requires at_in_bounds { at < length b.now }
     requires b_value { sent_limits (drop at b.now) ≡ true }
     requires b_value_2 { sent_typed (scope_in env.now.types) (action_at (drop at b.now)) ≡ true }
@@ -106,29 +85,23 @@ fn action_fault(b: &[u8], at: usize, env: &Env) -> Faults
 {
     let c = octets::byte_at(b, at);
     if !rules::holds_expression(c) {
-        return Faults::Clear;
+        return Ok(());
     }
-    match value(b, at + 1, env) {
-        Outcome::Value { ty: _, value: _ } => Faults::Clear,
-        Outcome::Fault { number } => Faults::Fault { number },
-    }
+    value(b, at + 1, env)?;
+    Ok(())
 }
 
-// The first fault among n actions from an offset on.
-pub fn actions_fault(b: &[u8], from: usize, n: usize, env: &Env, var: bool) -> Faults
+// The first fault among n actions from an offset on. What can be a variable's can be an output's.
+pub fn actions_fault(b: &[u8], from: usize, n: usize, env: &Env) -> Result<(), Fault>
     requires n_bound { n ≤ 4 }
-    requires b_value { limits_of (actions_from var n from b.now) ≡ true }
-    requires b_value_2 { all_typed (scope_in env.now.types) (list_read (actions_from var n from b.now)) ≡ true }
-    ensures { result ≡ faults_of (named_by env.now) (list_read (actions_from var n from b.now)) }
+    requires b_value { limits_of (actions_from false n from b.now) ≡ true }
+    requires b_value_2 { all_typed (scope_in env.now.types) (list_read (actions_from false n from b.now)) ≡ true }
+    ensures { result ≡ faults_of (named_by env.now) (list_read (actions_from false n from b.now)) }
 {
     let mut at = from;
     for _action in 0..n {
-        let next = rules::skip_action(b, at);
-        let f = action_fault(b, at, env);
-        let Faults::Clear = f else {
-            return f;
-        };
-        at = next;
+        action_fault(b, at, env)?;
+        at = rules::skip_action(b, at);
     }
-    Faults::Clear
+    Ok(())
 }

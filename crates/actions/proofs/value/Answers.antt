@@ -1,9 +1,9 @@
 use mathlib.Core.Path.{sym, ap, ◌∙◌}
 use native.Mathlib.Omega.{arith}
-use Rattle.model.specs.declared.Outcome.TheVariants.{Value}
+use Rattle.std.proofs.lemmas.Result.{err_from_is_err_and}
+use lib.IntN.{ℤ}
+use Rattle.model.specs.Values.{gives}
 use Rattle.values.proofs.Machine.{back}
-use Rattle.types.specs.Scopes.{scope_in}
-use Rattle.evaluation.specs.Named.{named_by}
 use Rattle.rules.proofs.Ends.{part_is}
 use Rattle.typing.proofs.Scoping.{exp_there}
 use Rattle.actions.proofs.Acting.{outcome_of, part_limits, part_typed, part_value}
@@ -17,19 +17,17 @@ slice_bounds-value_of-start c = omega (arith, exp_there c.args.b.now c.args.at c
 
 pub value_of-requires : goal.value_of-requires
 value_of-requires c =
-    let a = c.args in
-    let d = part_is a.b.now a.at in
-    record { s_value = part_limits a.b.now _ a.at d c.requires.b_value; s_value_2 = part_typed a.b.now _ a.at d c.requires.b_value (scope_in a.env.now.types) c.requires.b_value_2 }
+    let d = part_is c.args.b.now c.args.at in
+    record { s_value = part_limits c.args.b.now _ c.args.at d c.requires.b_value; s_value_2 = part_typed c.args.b.now _ c.args.at d c.requires.b_value _ c.requires.b_value_2 }
 
-pub returns-in-Value : goal.returns-in-Value
+pub returns-in_err-v : goal.returns-in_err-v
 unfolding outcome_of
-returns-in-Value c =
-    let a = c.args in
-    ap (Value c.in-Value.ty) (back {z = c.in-Value.value} (omega arith))
-    ∙ part_value a.b.now _ a.at (part_is a.b.now a.at) c.requires.b_value (named_by a.env.now) (sym c.in-Value.is ∙ c.value_of.ensures)
+returns-in_err-v c =
+    let e = err_from_is_err_and c.from_residual.result c.from_residual.ensures.1 in
+    rw (e.1, e.2) (part_value c.args.b.now _ c.args.at (part_is c.args.b.now c.args.at) c.requires.b_value _ (sym c.in_err-v.was ∙ c.value_of.ensures))
 
-pub returns-in-Fault : goal.returns-in-Fault
+pub returns : goal.returns
 unfolding outcome_of
-returns-in-Fault c =
-    let a = c.args in
-    part_value a.b.now _ a.at (part_is a.b.now a.at) c.requires.b_value (named_by a.env.now) (sym c.in-Fault.is ∙ c.value_of.ensures)
+returns c =
+    ap (λ (z : ℤ). gives c.in_ok-v.v.ty z) (back (omega arith))
+    ∙ part_value c.args.b.now _ c.args.at (part_is c.args.b.now c.args.at) c.requires.b_value _ (sym c.in_ok-v.was ∙ c.value_of.ensures)
