@@ -10,7 +10,7 @@ use lib.ListN.{length, get_or}
 use borrow.Author.Tests.{ltb-true}
 use Rattle.model.specs.declared.Token.{Token}
 use Rattle.model.specs.Rules.{Pattern}
-use Rattle.model.specs.Network.{Box, Proc, box, input, output, Net, Own, State, no_token, proc, rule, queue, own, taken_of, got_of, ins_of, outs_of}
+use Rattle.model.specs.Network.{Box, Proc, box, input, output, Net, Own, State, no_token, proc, queue, own, taken_of, got_of, ins_of, outs_of}
 use Rattle.model.specs.NetworkFile.{box_at}
 use Rattle.model.specs.Cycles.{Mark, fires, empty, oldest, full, seen, look, moves, reads_of, sent_of, kept_of, deed_of, deed, fire, mark_of, mark}
 use Rattle.model.specs.Orders.{on_wire}

@@ -12,6 +12,7 @@ use lib.IntN.{ℤ}
 use lib.ListN.{length, get_or, drop, set, length-drop, get_or-eq_default}
 use lib.Seq.{drop-length, drop-cons}
 use borrow.Author.Tests.{ne_eqb}
+use Rattle.std.specs.Prelude.{Some}
 use Rattle.model.specs.declared.Token.{Token}
 use Rattle.model.specs.Bytes.{value_at}
 use Rattle.model.specs.Expressions.{read_many}
@@ -23,7 +24,6 @@ use Rattle.model.specs.Orders.{on_wire}
 use Rattle.model.proofs.Order.{length_joined, hit_same, hit_other}
 use Rattle.expressions.specs.Reading.{end_from, is_read, skip_to}
 use Rattle.table.specs.declared.Counts.{Counts}
-use Rattle.expressions.specs.declared.Form.TheVariants.{Bytes}
 use Rattle.rules.specs.Bodies.{pattern_codes, any_code, patterns_from}
 use Rattle.rules.proofs.Ends.{pattern_there, pattern_skip}
 use Rattle.typing.specs.Fits.{list_read}
@@ -168,7 +168,7 @@ module _ (s t p ts b₀ : List ℕ) (c : Counts) (ws body : List ℕ) where
     left_there = pattern_there (pattern_codes false) body at is_read_lem
 
     module _ (end code : ℕ) (g : end ≡ skip_to at (read_pattern any_code (drop at body))) (d : code ≡ get_or body at 0) where
-      e : end_from at (read_pattern (pattern_codes false) (drop at body)) ≡ Bytes end
+      e : end_from at (read_pattern (pattern_codes false) (drop at body)) ≡ Some end
       e = pattern_skip (pattern_codes false) body at is_read_lem end g
 
       abbrev r : Bool

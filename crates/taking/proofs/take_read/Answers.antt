@@ -4,13 +4,13 @@ use Rattle.taking.proofs.Reading.{left_first, left_last, left_there, left_asks, 
 use Rattle.taking.proofs.take_read.Goals as goal
 
 pub box_body-ports-requires : goal.box_body-ports-requires
-box_body-ports-requires c = record { tabled = c.requires.standing.tabled; b_lt_boxes = c.requires.can_read.known }
+box_body-ports-requires c = c.requires.can_read.known
 
 pub loop-j-init : goal.loop-j-init
 loop-j-init c =
     let h = c.requires.standing in
     let few = ins_count _ _ _ h.tabled _ c.requires.can_read.known _ _ _ c.box_body-ports.ensures c.byte_at.ensures c.from-n.ensures in
-    (few, left_first _ _ _ _ _ _ _ _ _ h c.requires.can_read)
+    (few.0, left_first _ _ _ _ _ _ _ _ _ h c.requires.can_read)
 
 pub skip_pattern-next-requires : goal.skip_pattern-next-requires
 skip_pattern-next-requires c = let inv = c.loop-j.invariant in left_there _ _ _ _ _ _ _ _ _ _ _ inv.1 (omega (arith, inv.0))
