@@ -1,2 +1,3 @@
 -- Laws of the tests on fields.
+pub mod Every
 pub mod Laws

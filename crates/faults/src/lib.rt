@@ -1,93 +1,79 @@
 #![tactic(auto)]
 
-// What is wrong with a field of the network file by itself: 1 form, 2 limits, 4 types, 0 where all is well.
+// What is wrong with a field of the network file by itself: its form, its limits or its types, the first that fails.
 ghost use Rattle.std.specs.Prelude.{true, ◌≡◌, ◌+◌, ◌*◌, ◌<◌, leb, ltb, get_or};
 ghost use Rattle.model.specs.Values.{in_precision};
 ghost use Rattle.model.specs.Expressions.{type_at};
+ghost use Rattle.model.specs.Reasons.{fault_said};
 ghost use Rattle.faults.specs.Variables.{fits_at};
 ghost use Rattle.model.specs.NetworkFile.{fault_of, wire_form, wire_limits, wire_type_fits, variable_start, every, box_form, box_limits, box_types, input_form, output_form, output_limits};
 
-use model::Ty;
+use model::{Reason, Ty};
 
 // A wire: kind, p, capacity; `seen` wires stand before it.
-pub fn wire_fault(b: &[u8], seen: usize) -> u8
-    ensures { result ≡ fault_of (wire_form b.now) (wire_limits seen b.now) (wire_type_fits b.now) }
+#[tactic(auto, unfolding(model::specs::Reasons::fault_said, model::specs::Reasons::reason_number, model::specs::NetworkFile::fault_of, model::specs::NetworkFile::wire_form, model::specs::NetworkFile::wire_limits, model::specs::NetworkFile::wire_type_fits, model::specs::Values::in_precision, model::specs::Values::well_sized, model::specs::Values::is_bool, model::specs::Expressions::type_at,))]
+pub fn wire_fault(b: &[u8], seen: usize) -> Result<(), Reason>
+    ensures { fault_said result ≡ fault_of (wire_form b.now) (wire_limits seen b.now) (wire_type_fits b.now) }
 {
-    if b.len() != 3 {
-        return 1;
-    }
-    let kind = b[0];
-    let p = b[1];
-    let capacity = b[2];
+    let [kind, p, capacity] = *b else {
+        return Err(Reason::Form);
+    };
     if 4 < kind {
-        return 1;
+        return Err(Reason::Form);
     }
-    if 64 <= seen {
-        return 2;
+    if 64 <= seen || p < 1 || 30 < p || capacity < 1 || 64 < capacity {
+        return Err(Reason::Limits);
     }
-    if p < 1 {
-        return 2;
+    if kind == 0 && p != 1 {
+        return Err(Reason::Types);
     }
-    if 30 < p {
-        return 2;
-    }
-    if capacity < 1 {
-        return 2;
-    }
-    if 64 < capacity {
-        return 2;
-    }
-    if kind != 0 {
-        return 0;
-    }
-    if p == 1 { 0 } else { 4 }
+    Ok(())
 }
 
 // An input: a wire number; `seen` inputs stand before it.
-pub fn input_fault(b: &[u8], wires: usize, seen: usize) -> u8
-    ensures { result ≡ fault_of (input_form wires b.now) (ltb seen 8) true }
+#[tactic(auto, unfolding(model::specs::Reasons::fault_said, model::specs::Reasons::reason_number, model::specs::NetworkFile::fault_of, model::specs::NetworkFile::input_form,))]
+pub fn input_fault(b: &[u8], wires: usize, seen: usize) -> Result<(), Reason>
+    ensures { fault_said result ≡ fault_of (input_form wires b.now) (ltb seen 8) true }
 {
-    if b.len() != 1 {
-        return 1;
+    let [w] = *b else {
+        return Err(Reason::Form);
+    };
+    if wires <= usize::from(w) {
+        return Err(Reason::Form);
     }
-    let w = octets::wide(b[0]);
-    if wires <= w {
-        return 1;
+    if seen < 8 {
+        Ok(())
+    } else {
+        Err(Reason::Limits)
     }
-    if seen < 8 { 0 } else { 2 }
 }
 
 // An output: a wire number, a two-byte room; `seen` outputs stand before it.
-pub fn output_fault(b: &[u8], wires: usize, seen: usize) -> u8
-    ensures { result ≡ fault_of (output_form wires b.now) (output_limits seen b.now) true }
+#[tactic(auto, unfolding(model::specs::Reasons::fault_said, model::specs::Reasons::reason_number, model::specs::NetworkFile::fault_of, model::specs::NetworkFile::output_form, model::specs::NetworkFile::output_limits,))]
+pub fn output_fault(b: &[u8], wires: usize, seen: usize) -> Result<(), Reason>
+    ensures { fault_said result ≡ fault_of (output_form wires b.now) (output_limits seen b.now) true }
 {
-    if b.len() != 3 {
-        return 1;
-    }
-    let w = octets::wide(b[0]);
-    if wires <= w {
-        return 1;
-    }
-    if 8 <= seen {
-        return 2;
+    if b.len() != 3 || wires <= usize::from(b[0]) {
+        return Err(Reason::Form);
     }
     let room = octets::two_at(b, 1);
-    if room < 1 {
-        return 2;
+    if 8 <= seen || room < 1 || 1000 < room {
+        return Err(Reason::Limits);
     }
-    if 1000 < room { 2 } else { 0 }
+    Ok(())
 }
 
 // How many ports a box's body states.
 fn ports_of(b: &[u8]) -> usize
     ensures { (result ≡ get_or b.now 0 0 + get_or b.now 1 0) × (result < 512) }
 {
-    let ins = octets::wide(octets::byte_at(b, 0));
-    let outs = octets::wide(octets::byte_at(b, 1));
+    let ins = usize::from(octets::byte_at(b, 0));
+    let outs = usize::from(octets::byte_at(b, 1));
     ins + outs
 }
 
 // Where variable j of a box's body begins.
+#[tactic(auto, unfolding(model::specs::NetworkFile::variable_start))]
 fn variable_start(b: &[u8], j: usize) -> usize
     requires { j < 256 }
     ensures { (result ≡ variable_start b.now j) × (result < 4000) }
@@ -101,15 +87,7 @@ fn ports_declared(b: &[u8], n: usize, wires: usize) -> bool
     requires { n < 512 }
     ensures { result ≡ every n (λ k. ltb (get_or b.now (3 + k) 0) wires) }
 {
-    let mut k = 0;
-    while k < n {
-        let w = octets::wide(octets::byte_at(b, 3 + k));
-        if wires <= w {
-            return false;
-        }
-        k += 1;
-    }
-    true
+    (0..n).all(|k| usize::from(octets::byte_at(b, 3 + k)) < wires)
 }
 
 // Each of the n variables of a box's body is of a known kind.
@@ -117,36 +95,21 @@ fn kinds_known(b: &[u8], n: usize) -> bool
     requires { n < 256 }
     ensures { result ≡ every n (λ j. leb (get_or b.now (variable_start b.now j) 0) 4) }
 {
-    let mut j = 0;
-    while j < n {
-        let at = variable_start(b, j);
-        let kind = octets::byte_at(b, at);
-        if 4 < kind {
-            return false;
-        }
-        j += 1;
-    }
-    true
+    (0..n).all(|j| octets::byte_at(b, variable_start(b, j)) <= 4)
 }
 
 // A box's form: its length fits its counts, its wires are declared, its variables' kinds are known.
+#[tactic(auto, unfolding(model::specs::NetworkFile::box_form))]
 fn box_form(b: &[u8], wires: usize) -> bool
     ensures { result ≡ box_form wires b.now }
 {
-    if b.len() < 3 {
-        return false;
-    }
-    let vars = octets::wide(octets::byte_at(b, 2));
-    if b.len() != variable_start(b, vars) {
-        return false;
-    }
-    if !ports_declared(b, ports_of(b), wires) {
-        return false;
-    }
-    kinds_known(b, vars)
+    let vars = usize::from(octets::byte_at(b, 2));
+    let is_long = b.len() >= 3 && b.len() == variable_start(b, vars);
+    is_long && ports_declared(b, ports_of(b), wires) && kinds_known(b, vars)
 }
 
 // The type at an offset.
+#[tactic(auto, unfolding(model::specs::Expressions::type_at))]
 fn type_at(b: &[u8], at: usize) -> Ty
     requires { at < 4000 }
     ensures { result ≡ type_at b.now at }
@@ -162,49 +125,31 @@ fn variables_precise(b: &[u8], n: usize) -> bool
     requires { n < 256 }
     ensures { result ≡ every n (λ j. in_precision (type_at b.now (variable_start b.now j))) }
 {
-    let mut j = 0;
-    while j < n {
-        let at = variable_start(b, j);
-        let t = type_at(b, at);
-        if !values::in_precision(t) {
-            return false;
-        }
-        j += 1;
-    }
-    true
+    (0..n).all(|j| values::in_precision(type_at(b, variable_start(b, j))))
 }
 
 // A box's limits: 32 boxes, 4 inputs, outputs and variables, their precisions; `seen` boxes stand before it.
+#[tactic(auto, unfolding(model::specs::NetworkFile::box_limits))]
 fn box_limits(b: &[u8], seen: usize) -> bool
     ensures { result ≡ box_limits seen b.now }
 {
-    if 32 <= seen {
-        return false;
-    }
-    if 4 < octets::byte_at(b, 0) {
-        return false;
-    }
-    if 4 < octets::byte_at(b, 1) {
-        return false;
-    }
     let vars = octets::byte_at(b, 2);
-    if 4 < vars {
-        return false;
-    }
-    variables_precise(b, octets::wide(vars))
+    seen < 32
+        && octets::byte_at(b, 0) <= 4
+        && octets::byte_at(b, 1) <= 4
+        && vars <= 4
+        && variables_precise(b, usize::from(vars))
 }
 
 // The variable at an offset is of a plain type, and its initial value of that type.
+#[tactic(auto, unfolding(crate::specs::Variables::fits_at, model::specs::Values::in_precision))]
 fn variable_fits(b: &[u8], at: usize) -> bool
     requires at_bound { at < 4000 }
     requires at_value { in_precision (type_at b.now at) ≡ true }
     ensures { result ≡ fits_at b.now at }
 {
     let t = type_at(b, at);
-    if !values::is_plain(t) {
-        return false;
-    }
-    values::within(t, octets::value_at(b, at + 2))
+    values::is_plain(t) && values::within(t, octets::value_at(b, at + 2))
 }
 
 // Each of the n variables of a box's body fits.
@@ -213,27 +158,24 @@ fn variables_fit(b: &[u8], n: usize) -> bool
     requires j_value { every n (λ j. in_precision (type_at b.now (variable_start b.now j))) ≡ true }
     ensures { result ≡ every n (λ j. fits_at b.now (variable_start b.now j)) }
 {
-    let mut j = 0;
-    while j < n {
-        let at = variable_start(b, j);
-        if !variable_fits(b, at) {
-            return false;
-        }
-        j += 1;
-    }
-    true
+    (0..n).all(|j| variable_fits(b, variable_start(b, j)))
 }
 
 // A box: counts, wire numbers, variables; `seen` boxes stand before it.
-pub fn box_fault(b: &[u8], wires: usize, seen: usize) -> u8
-    ensures { result ≡ fault_of (box_form wires b.now) (box_limits seen b.now) (box_types b.now) }
+#[tactic(auto, unfolding(model::specs::Reasons::fault_said, model::specs::Reasons::reason_number, model::specs::NetworkFile::fault_of, model::specs::NetworkFile::box_types, model::specs::NetworkFile::variable_fits, crate::specs::Variables::fits_at,))]
+pub fn box_fault(b: &[u8], wires: usize, seen: usize) -> Result<(), Reason>
+    ensures { fault_said result ≡ fault_of (box_form wires b.now) (box_limits seen b.now) (box_types b.now) }
 {
     if !box_form(b, wires) {
-        return 1;
+        return Err(Reason::Form);
     }
     if !box_limits(b, seen) {
-        return 2;
+        return Err(Reason::Limits);
     }
-    let vars = octets::wide(octets::byte_at(b, 2));
-    if variables_fit(b, vars) { 0 } else { 4 }
+    let vars = usize::from(octets::byte_at(b, 2));
+    if variables_fit(b, vars) {
+        Ok(())
+    } else {
+        Err(Reason::Types)
+    }
 }
