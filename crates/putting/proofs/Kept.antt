@@ -3,9 +3,13 @@
 use mathlib.Core.Path.{◌≡◌, refl, sym, ap, ◌∙◌, subst}
 use mathlib.Core.Bool.{true}
 use mathlib.Core.List.{List, [], ◌∷◌, ◌++◌}
-use Prim.Native.Nat.{ℕ, suc, ◌+◌, ◌-◌, ◌≤◌, ◌<◌}
+use Prim.Native.Nat.{ℕ, suc, ◌+◌, ◌-◌, ◌≤◌, ◌<◌, ◌^◌}
 use native.Mathlib.Omega.{arith}
 use lib.IntN.{ℤ, pos}
+use lib.Signed.{mag}
+use mir.Syntax.{w64}
+use mir.Val.{to_z, of_z}
+use Rattle.values.proofs.Machine.{back}
 use lib.ListN.{length, get_or, drop, set, length-append}
 use lib.Seq.{drop-cons, drop-length, set_at, get_or_at, set-set, set-get_or, append_snoc}
 use Rattle.model.specs.Values.{within}
@@ -28,8 +32,8 @@ use Rattle.actions.proofs.Acting.{Ready, First}
 use Rattle.putting.specs.Putting.{new_from, Keeps, after_keeps}
 
 -- the value that the code hands on is the one that the action leaves
-pub kept_is : (en : Env) (a : Action) {v old old' z z' : ℤ} → old ≡ v → old' ≡ old → z ≡ new_var en old' a → z' ≡ z → z' ≡ new_var en v a
-kept_is en a e f g h = h ∙ g ∙ ap (λ (y : ℤ). new_var en y a) (f ∙ e)
+pub kept_is : (en : Env) (a : Action) (v z : ℤ) → mag v ≤ 2 ^ 31 → mag z < 2 ^ 63 → z ≡ new_var en (to_z w64 (of_z w64 v)) a → to_z w64 (of_z w64 z) ≡ new_var en v a
+kept_is en a v z l m e = back m ∙ e ∙ ap (λ (y : ℤ). new_var en y a) (back (omega arith))
 
 pub keep_asks : {c : Counts} {n : Net} {st : State} {k j : ℕ} {z z' : ℤ} → z ≡ z' → CanKeep c n st k j z' → CanKeep c n st k j z
 keep_asks {c = c} {n = n} {st = st} {k = k} {j = j} e x = subst (λ (y : ℤ). CanKeep c n st k j y) (sym e) x

@@ -2,7 +2,6 @@
 -- Assumes nothing.
 use mathlib.Core.Path.{◌≡◌, refl, sym, ap, ◌∙◌, subst}
 use mathlib.Core.Bool.{Bool, true, false}
-use mathlib.Core.Option.{Option, none, some}
 use mathlib.Core.List.{List, [], ◌∷◌, ◌++◌, map}
 use Prim.Native.Nat.{ℕ, suc, ◌+◌, ◌-◌, ◌≤◌, ◌<◌}
 use native.Mathlib.Omega.{arith}
@@ -11,6 +10,7 @@ use lib.IntN.{ℤ}
 use lib.ListN.{length, get_or, drop, length-append}
 use lib.Seq.{drop-cons}
 use borrow.Author.Tests.{eq-eqb}
+use Rattle.std.specs.Prelude.{Option, Some, None}
 use Rattle.model.specs.declared.Ty.{Ty}
 use Rattle.model.specs.declared.Token.{Token}
 use Rattle.model.specs.Expressions.{Read, bad, got, read_many, Scope}
@@ -21,7 +21,6 @@ use Rattle.model.specs.Cycles.{Move, moves, result, put_all}
 use Rattle.model.specs.Orders.{joined, on_wire}
 use Rattle.model.proofs.Tests.{and₂, both}
 use Rattle.model.proofs.Order.{put_all_at}
-use Rattle.expressions.specs.declared.Form.TheVariants.{Bytes}
 use Rattle.expressions.specs.Reading.{end_from, skip_to}
 use Rattle.rules.specs.Bodies.{action_codes, actions_from}
 use Rattle.rules.proofs.Ends.{end_step, end_none}
@@ -34,29 +33,17 @@ use Rattle.places.specs.Standing.{net_in, Standing, state_of}
 use Rattle.places.proofs.Standing.{state_good}
 use Rattle.moves.specs.Moves.{Became, CanPut, with_queue, after_put}
 use Rattle.moves.proofs.Laws.{became_none, became_more}
-use Rattle.actions.specs.declared.Sending.TheVariants as sending
-use Rattle.actions.specs.Acts.{sent_as}
 use Rattle.actions.proofs.Acting.{Ready, First}
 use Rattle.putting.specs.Putting.{Workable, sent_to, sent_from, Places, after_puts}
 
 -- ── one result ───────────────────────────────────────────────────────────────────────────────
-
-sent_some : (x : Option Token) (t : Token) → sending.Token t ≡ sent_as x → x ≡ some t
-unfolding sent_as
-sent_some none t e = let z : ◌≡◌ {A = ℕ} 0 1 = cc in absurd (omega arith)
-sent_some (some u) t e = cc
-
-sent_none : (x : Option Token) → sending.Nothing ≡ sent_as x → x ≡ none
-unfolding sent_as
-sent_none none e = refl
-sent_none (some u) e = let z : ◌≡◌ {A = ℕ} 0 1 = cc in absurd (omega arith)
 
 fit_first : (y : Ty) (t : Token) → tokens_fit y (t ∷ []) ≡ true → token_fits y t ≡ true
 unfolding tokens_fit
 fit_first y t e = (and₂ (token_fits y t) true e).0
 
 -- a token for a wire comes on that wire
-on_own : (w : ℕ) (t : Token) → on_wire w (moves (w ∷ []) (some t ∷ [])) ≡ t ∷ []
+on_own : (w : ℕ) (t : Token) → on_wire w (moves (w ∷ []) (Some t ∷ [])) ≡ t ∷ []
 unfolding moves on_wire joined
 on_own w t = rw (eq-eqb w w refl)
 
@@ -65,19 +52,19 @@ module _ (vals : List ℤ) (types b : List ℕ) (w at : ℕ) where
   x = result (env_in vals types) (action_at (drop at b))
 
   module _ (st : State) where
-    pub puts_none : sending.Nothing ≡ sent_as x → st ≡ after_puts (sent_to vals types w b at) st
+    pub puts_none : None ≡ x → st ≡ after_puts (sent_to vals types w b at) st
     unfolding after_puts sent_to moves put_all
-    puts_none e = rw (sent_none x e)
+    puts_none e = rw (← e)
 
-    pub puts_one : (t : Token) (v : ℕ) → v ≡ w → sending.Token t ≡ sent_as x → after_put v t st ≡ after_puts (sent_to vals types w b at) st
+    pub puts_one : (t : Token) (v : ℕ) → v ≡ w → Some t ≡ x → after_put v t st ≡ after_puts (sent_to vals types w b at) st
     unfolding after_puts sent_to moves put_all after_put with_queue queue
-    puts_one t v e f = rw (e, sent_some x t f)
+    puts_one t v e f = rw (e, ← f)
 
-  pub can_put : (c : Counts) (n : Net) (st : State) (t : Token) (v : ℕ) → length n.wires ≡ c.wires → (v ≡ w) × (v < c.wires) → sending.Token t ≡ sent_as x → Places n st (sent_to vals types w b at) → CanPut c n st v t
+  pub can_put : (c : Counts) (n : Net) (st : State) (t : Token) (v : ℕ) → length n.wires ≡ c.wires → (v ≡ w) × (v < c.wires) → Some t ≡ x → Places n st (sent_to vals types w b at) → CanPut c n st v t
   unfolding sent_to
   can_put c n st t v l e f g =
       let i : w < length n.wires = omega (arith, l, e.0, e.1) in
-      let q : on_wire w (moves (w ∷ []) (x ∷ [])) ≡ t ∷ [] = ap (λ (y : Option Token). on_wire w (moves (w ∷ []) (y ∷ []))) (sent_some x t f) ∙ on_own w t in
+      let q : on_wire w (moves (w ∷ []) (x ∷ [])) ≡ t ∷ [] = ap (λ (y : Option Token). on_wire w (moves (w ∷ []) (y ∷ []))) (sym f) ∙ on_own w t in
       rw e.0 (record {
         known = omega (arith, e.0, e.1);
         room = omega (arith, g.room w i, ap length q);
@@ -139,8 +126,8 @@ module _ (n : Net) (st : State) (l m : List Move) (g : Places n st (l ++ m)) whe
 
 moves_first : (w : ℕ) (ws : List ℕ) (y : Option Token) (ys : List (Option Token)) → moves (w ∷ ws) (y ∷ ys) ≡ moves (w ∷ []) (y ∷ []) ++ moves ws ys
 unfolding moves
-moves_first w ws none ys = refl
-moves_first w ws (some t) ys = refl
+moves_first w ws None ys = refl
+moves_first w ws (Some t) ys = refl
 
 pub workable : {sc : Scope} {v : Bool} {b : List ℕ} {k at end : ℕ} → First sc v b k at end → Workable sc b at
 workable x = record { inside = x.inside; limits = x.limits; typed = x.typed }
@@ -198,7 +185,7 @@ sent_end vals types ws b k at h = let q : k ≡ 0 = omega arith in rw q (no_move
 
 -- before turn j, at an offset: the actions that are left can be worked out, and their results lead to the state after all n
 -- what ends at an offset is skipped to there
-skipped : {A : Type 0} (at : ℕ) {end : ℕ} (r : Read A) → end_from at r ≡ Bytes end → end ≡ skip_to at r
+skipped : {A : Type 0} (at : ℕ) {end : ℕ} (r : Read A) → end_from at r ≡ Some end → end ≡ skip_to at r
 unfolding end_from skip_to
 skipped at bad e = let z : ◌≡◌ {A = ℕ} 0 1 = cc in absurd (omega arith)
 skipped at (got x n) e = cc

@@ -1,2 +1,3 @@
 -- What the contracts of putting cite beside the model.
 pub mod Putting
+pub mod Actors

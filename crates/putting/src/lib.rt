@@ -1,146 +1,89 @@
 #![tactic(auto)]
 
 // What a rule's actions leave: the results put on the box's output wires, and the new values of its variables, in place on the lent state.
-ghost use Rattle.std.specs.Prelude.{◌≡◌, true, false, ◌+◌, ◌≤◌, ◌<◌, pos, length, get_or, drop};
-ghost use Rattle.model.specs.Network.{proc, own, vars_of};
-ghost use Rattle.model.specs.NetworkFile.{box_at};
-ghost use Rattle.model.specs.Cycles.{new_var};
-ghost use Rattle.types.specs.Scopes.{scope_in};
+ghost use Rattle.std.specs.Prelude.{◌≡◌, true, false, ◌≤◌, ◌<◌, length};
+ghost use Rattle.model.specs.Network.{proc};
 ghost use Rattle.expressions.specs.Reading.{skip_to};
 ghost use Rattle.rules.specs.Bodies.{actions_from};
-ghost use Rattle.typing.specs.Fits.{action_at};
-ghost use Rattle.evaluation.specs.Envs.{env_in, EnvFits};
-ghost use Rattle.table.specs.Table.{index_in};
-ghost use Rattle.places.specs.Standing.{Standing, net_in, state_of};
-ghost use Rattle.moves.specs.Moves.{Became, CanKeep, after_keep};
+ghost use Rattle.places.specs.Views.{net_at, state_at, Stands};
+ghost use Rattle.moves.specs.Moves.{CanKeep, after_keep};
+ghost use Rattle.moves.specs.Views.{Becomes};
 ghost use Rattle.actions.proofs.Acting.{Ready};
-ghost use Rattle.putting.specs.Putting.{Workable, sent_to, sent_from, Places, after_puts, new_from, Keeps, after_keeps};
+ghost use Rattle.putting.specs.Putting.{Workable, Places, after_puts, Keeps, after_keeps};
+ghost use Rattle.putting.specs.Actors.{scope_by, box_by, vars_by, sent_one, sent_all, new_one, new_all};
 
-use actions::Sending;
+use evaluation::Env;
 use model::ProcessId;
-use table::Counts;
+use places::Site;
 
-// The new value of variable j of box k, by the action at an offset of the rule's body.
-fn keep_one(
-    net: &[u8],
-    table: &[u16],
-    c: Counts,
-    starts: &[u16],
-    tokens: &[u8],
-    k: ProcessId,
-    j: usize,
-    body: &[u8],
-    at: usize,
-    vals: &[i64; 8],
-    types: &[u8; 16],
-    state: &mut [u8],
-)
-    requires standing { Standing net.now table.now starts.now tokens.now state.old c }
-    requires j_bound { j < 4 }
-    requires workable { Workable (scope_in types.now) body.now at }
-    requires env_fits { EnvFits vals.now types.now }
-    requires can_keep { CanKeep c (net_in net.now table.now c tokens.now) (state_of net.now table.now c tokens.now state.old) k.0 j (new_var (env_in vals.now types.now) (get_or vals.now (4 + j) (pos 0)) (action_at (drop at body.now))) }
-    ensures { Became net.now table.now starts.now tokens.now state.old c state.new (after_keep k.0 j (new_var (env_in vals.now types.now) (get_or vals.now (4 + j) (pos 0)) (action_at (drop at body.now))) (state_of net.now table.now c tokens.now state.old)) }
-{
-    let vs: &[i64] = vals;
-    let old = evaluation::number_at(vs, 4 + j);
-    let z = actions::kept_value(body, at, old, vals, types);
-    moves::keep(net, table, c, starts, tokens, k, j, z, state);
+// Box k of a site with the body of the rule that it fires by, and what the rule's expressions may name.
+#[derive(Clone, Copy)]
+pub struct Actor<'a> {
+    pub site: &'a Site<'a>,
+    pub k: ProcessId,
+    pub body: &'a [u8],
+    pub env: &'a Env,
 }
 
-// The result of the action at an offset of the rule's body, put on the wire of output j of box k.
-fn put_one(
-    net: &[u8],
-    table: &[u16],
-    c: Counts,
-    starts: &[u16],
-    tokens: &[u8],
-    k: ProcessId,
-    j: usize,
-    body: &[u8],
-    at: usize,
-    vals: &[i64; 8],
-    types: &[u8; 16],
-    state: &mut [u8],
-)
-    requires standing { Standing net.now table.now starts.now tokens.now state.old c }
-    requires k_lt_boxes { k.0 < c.boxes }
-    requires j_in_bounds { j < length (box_at net.now (index_in table.now c) k.0).outs }
-    requires workable { Workable (scope_in types.now) body.now at }
-    requires env_fits { EnvFits vals.now types.now }
-    requires places { Places (net_in net.now table.now c tokens.now) (state_of net.now table.now c tokens.now state.old) (sent_to vals.now types.now (get_or (box_at net.now (index_in table.now c) k.0).outs j 0) body.now at) }
-    ensures { Became net.now table.now starts.now tokens.now state.old c state.new (after_puts (sent_to vals.now types.now (get_or (box_at net.now (index_in table.now c) k.0).outs j 0) body.now at) (state_of net.now table.now c tokens.now state.old)) }
-{
-    let Sending::Token { token } = actions::sent(body, at, vals, types) else {
-        return;
-    };
-    let w = sights::out_wire(net, table, c, k, j);
-    moves::put(net, table, c, starts, tokens, w, token, state);
-}
-
-// The results of the output actions from an offset of the rule's body on, each put on the wire of its output of box k. The answer is the offset after them.
-pub fn put_sent(
-    net: &[u8],
-    table: &[u16],
-    c: Counts,
-    starts: &[u16],
-    tokens: &[u8],
-    k: ProcessId,
-    body: &[u8],
-    from: usize,
-    outs: usize,
-    vals: &[i64; 8],
-    types: &[u8; 16],
-    state: &mut [u8],
-) -> usize
-    requires standing { Standing net.now table.now starts.now tokens.now state.old c }
-    requires k_lt_boxes { k.0 < c.boxes }
-    requires outs_value { outs ≡ length (box_at net.now (index_in table.now c) k.0).outs }
-    requires ready { Ready (scope_in types.now) false body.now outs from }
-    requires env_fits { EnvFits vals.now types.now }
-    requires places { Places (net_in net.now table.now c tokens.now) (state_of net.now table.now c tokens.now state.old) (sent_from vals.now types.now (box_at net.now (index_in table.now c) k.0).outs body.now outs from) }
-    ensures { (result ≡ skip_to from (actions_from false outs from body.now)) × Became net.now table.now starts.now tokens.now state.old c state.new (after_puts (sent_from vals.now types.now (box_at net.now (index_in table.now c) k.0).outs body.now outs from) (state_of net.now table.now c tokens.now state.old)) }
-{
-    let mut at = from;
-    for out in 0..outs {
-        let next = rules::skip_action(body, at);
-        put_one(
-            net, table, c, starts, tokens, k, out, body, at, vals, types, state,
-        );
-        at = next;
+impl<'a> Actor<'a> {
+    // The new value of variable j, by the action at an offset of the body.
+    fn keep_one(&self, j: usize, at: usize, state: &mut [u8])
+        requires standing { Stands self.now.site.now state.old }
+        requires j_bound { j < 4 }
+        requires workable { Workable (scope_by self.now) self.now.body.now at }
+        requires can_keep { CanKeep self.now.site.now.plan.net.counts (net_at self.now.site.now) (state_at self.now.site.now state.old) self.now.k.0 j (new_one self.now j at) }
+        ensures { Becomes self.now.site.now state.old state.new (after_keep self.now.k.0 j (new_one self.now j at) (state_at self.now.site.now state.old)) }
+    {
+        let old = self.env.vals[4 + j];
+        let z = actions::kept_value(self.body, at, old, self.env);
+        moves::keep(self.site, self.k, j, z, state);
     }
-    at
-}
 
-// The new values of the variables of box k, by the actions from an offset of the rule's body on.
-pub fn keep_new(
-    net: &[u8],
-    table: &[u16],
-    c: Counts,
-    starts: &[u16],
-    tokens: &[u8],
-    k: ProcessId,
-    body: &[u8],
-    from: usize,
-    vars: usize,
-    vals: &[i64; 8],
-    types: &[u8; 16],
-    state: &mut [u8],
-)
-    requires standing { Standing net.now table.now starts.now tokens.now state.old c }
-    requires k_lt_boxes { k.0 < c.boxes }
-    requires vars_bound { (vars ≤ 4) × (vars ≡ length (vars_of (own (state_of net.now table.now c tokens.now state.old) k.0))) }
-    requires ready { Ready (scope_in types.now) true body.now vars from }
-    requires env_fits { EnvFits vals.now types.now }
-    requires keeps { Keeps (net_in net.now table.now c tokens.now) (proc (net_in net.now table.now c tokens.now) k.0) vals.now (vars_of (own (state_of net.now table.now c tokens.now state.old) k.0)) (new_from vals.now types.now (vars_of (own (state_of net.now table.now c tokens.now state.old) k.0)) body.now vars from) }
-    ensures { Became net.now table.now starts.now tokens.now state.old c state.new (after_keeps k.0 (new_from vals.now types.now (vars_of (own (state_of net.now table.now c tokens.now state.old) k.0)) body.now vars from) (state_of net.now table.now c tokens.now state.old)) }
-{
-    let mut at = from;
-    for var in 0..vars {
-        let next = rules::skip_action(body, at);
-        keep_one(
-            net, table, c, starts, tokens, k, var, body, at, vals, types, state,
-        );
-        at = next;
+    // The result of the action at an offset of the body, put on the wire of output j.
+    fn put_one(&self, j: usize, at: usize, state: &mut [u8])
+        requires standing { Stands self.now.site.now state.old }
+        requires k_lt_boxes { self.now.k.0 < self.now.site.now.plan.net.counts.boxes }
+        requires j_in_bounds { j < length (box_by self.now).outs }
+        requires workable { Workable (scope_by self.now) self.now.body.now at }
+        requires places { Places (net_at self.now.site.now) (state_at self.now.site.now state.old) (sent_one self.now j at) }
+        ensures { Becomes self.now.site.now state.old state.new (after_puts (sent_one self.now j at) (state_at self.now.site.now state.old)) }
+    {
+        if let Some(token) = actions::sent(self.body, at, self.env) {
+            let w = sights::out_wire(&self.site.plan.net, self.k, j);
+            moves::put(self.site, w, token, state);
+        }
+    }
+
+    // The results of the output actions from an offset of the body on, each put on the wire of its output. The answer is the offset after them.
+    pub fn put_sent(&self, from: usize, outs: usize, state: &mut [u8]) -> usize
+        requires standing { Stands self.now.site.now state.old }
+        requires k_lt_boxes { self.now.k.0 < self.now.site.now.plan.net.counts.boxes }
+        requires outs_value { outs ≡ length (box_by self.now).outs }
+        requires ready { Ready (scope_by self.now) false self.now.body.now outs from }
+        requires places { Places (net_at self.now.site.now) (state_at self.now.site.now state.old) (sent_all self.now outs from) }
+        ensures { (result ≡ skip_to from (actions_from false outs from self.now.body.now)) × Becomes self.now.site.now state.old state.new (after_puts (sent_all self.now outs from) (state_at self.now.site.now state.old)) }
+    {
+        let mut at = from;
+        for out in 0..outs {
+            self.put_one(out, at, state);
+            at = rules::skip_action(self.body, at);
+        }
+        at
+    }
+
+    // The new values of the variables, by the actions from an offset of the body on.
+    pub fn keep_new(&self, from: usize, vars: usize, state: &mut [u8])
+        requires standing { Stands self.now.site.now state.old }
+        requires k_lt_boxes { self.now.k.0 < self.now.site.now.plan.net.counts.boxes }
+        requires vars_bound { (vars ≤ 4) × (vars ≡ length (vars_by self.now state.old)) }
+        requires ready { Ready (scope_by self.now) true self.now.body.now vars from }
+        requires keeps { Keeps (net_at self.now.site.now) (proc (net_at self.now.site.now) self.now.k.0) self.now.env.now.vals (vars_by self.now state.old) (new_all self.now state.old vars from) }
+        ensures { Becomes self.now.site.now state.old state.new (after_keeps self.now.k.0 (new_all self.now state.old vars from) (state_at self.now.site.now state.old)) }
+    {
+        let mut at = from;
+        for var in 0..vars {
+            self.keep_one(var, at, state);
+            at = rules::skip_action(self.body, at);
+        }
     }
 }
