@@ -98,7 +98,8 @@ fn see_inputs(site: &Site, k: ProcessId, state: &[u8], heads: &mut [u8], vals: &
     requires k_lt_boxes { k.0 < site.now.plan.net.counts.boxes }
     requires in_bounds { 4 ≤ length heads.old }
     requires variables { Variables (vars_at site.now state.now k.0) vals.old }
-    ensures { Oldest (state_at site.now state.now) (box_in site.now.plan.net k.0).ins (length (box_in site.now.plan.net k.0).ins) heads.new vals.new × Variables (vars_at site.now state.now k.0) vals.new }
+    ensures oldest { Oldest (state_at site.now state.now) (box_in site.now.plan.net k.0).ins (length (box_in site.now.plan.net k.0).ins) heads.new vals.new }
+    ensures variables { Variables (vars_at site.now state.now k.0) vals.new }
 {
     let net = &site.plan.net;
     let (ins, _) = port_counts(net, k);

@@ -86,10 +86,10 @@ module _ (types : List Ty) (f : List ℕ) (before : List (List Token)) (i at : �
             inside = k.inside;
             below = omega (arith, k.ends, m);
           }
-      by_test d false g q = let z : ◌≡◌ {A = Option ℕ} None (Some r) = end_bad f t at d g q ∙ sym p in let y : ◌≡◌ {A = ℕ} 0 1 = cc in absurd (omega arith)
+      by_test d false g q = absurd (let z = end_bad f t at d g q ∙ sym p in cc)
 
       by_field : (d : Option Field) → field_at f at ≡ d → Went types f before i at r
-      by_field None g = let z : ◌≡◌ {A = Option ℕ} None (Some r) = end_cut f t at g ∙ sym p in let y : ◌≡◌ {A = ℕ} 0 1 = cc in absurd (omega arith)
+      by_field None g = absurd (let z = end_cut f t at g ∙ sym p in cc)
       by_field (Some d) g = by_test d (token_field t d.tag (stretch f d.start d.len)) g refl
 
 -- ── the fields noted so far ──────────────────────────────────────────────────────────────────

@@ -6,6 +6,7 @@ use Rattle.model.specs.NetworkFile.{Verdict, good, refuse, body_at}
 use Rattle.model.specs.States.{token_file, input_types, tokens_in}
 use Rattle.model.proofs.Accepted.{InFile}
 use Rattle.table.specs.declared.Counts.{Counts}
+use Rattle.places.specs.declared.Site.{Site}
 use Rattle.places.specs.Standing.{bare_net, tokens_of}
 
 -- where a good field ends
@@ -21,6 +22,10 @@ pub record FieldOf (f : List ℕ) (at : ℕ) (tokens : List Token) : Type 0 wher
 -- network file s, table t with counts c, token file ts: p holds the offset of each input's field
 pub record Fields (s t ts p : List ℕ) (c : Counts) : Type 0 where
   pub each : (i : ℕ) → i < c.inputs → FieldOf ts (get_or p i 0) (get_or (tokens_of s t c ts) i [])
+
+-- the same of a site
+abbrev pub Noted : Site → List ℕ → Type 0
+Noted s p = Fields s.plan.net.file.now s.plan.net.table.now s.tokens.now p s.plan.net.counts
 
 -- the file is good, and the fields are found; or it is refused with 5 at a place
 abbrev pub Checked : (s t ts p : List ℕ) (c : Counts) → Result (Unit {0}) ℕ → Type 0

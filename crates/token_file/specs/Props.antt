@@ -8,8 +8,9 @@ use Rattle.model.specs.NetworkFile.{body_at}
 use Rattle.model.specs.States.{tokens_in}
 use Rattle.model.proofs.Accepted.{InFile}
 use Rattle.table.specs.declared.Counts.{Counts}
+use Rattle.places.specs.declared.Site.{Site}
 use Rattle.places.specs.Standing.{tokens_of}
-use Rattle.token_file.specs.Fields.{FieldOf, Fields}
+use Rattle.token_file.specs.Fields.{FieldOf, Fields, Noted}
 
 token_code : Coded Token
 token_code = code_by (ℕ × ℤ) (coded× coded_ℕ coded_ℤ) (λ t. (t.tag, t.value)) (λ y. record { tag = y.0; value = y.1 }) (λ t. refl)
@@ -23,5 +24,8 @@ FieldOf_prop f at tokens x y = λ i. record {
   holds = Coded-set (coded_list token_code) (tokens_in (body_at f at)) tokens x.holds y.holds i;
 }
 
-pub Fields_prop : (s t ts p : List ℕ) (c : Counts) → IsProp (Fields s t ts p c)
+Fields_prop : (s t ts p : List ℕ) (c : Counts) → IsProp (Fields s t ts p c)
 Fields_prop s t ts p c x y = λ i. record { each = λ j h. FieldOf_prop ts (get_or p j 0) (get_or (tokens_of s t c ts) j []) (x.each j h) (y.each j h) i }
+
+pub Noted_prop : (s : Site) (p : List ℕ) → IsProp (Noted s p)
+Noted_prop s p = Fields_prop s.plan.net.file.now s.plan.net.table.now s.tokens.now p s.plan.net.counts

@@ -10,8 +10,8 @@ ghost use Rattle.model.specs.States.{input_tokens, input_types};
 ghost use Rattle.model.proofs.Accepted.{InFile};
 ghost use Rattle.model.proofs.Decoded.{GoodType};
 ghost use Rattle.lookup.specs.Views.{network_of};
-ghost use Rattle.token_file.specs.Fields.{field_end, Checked, Fields};
-ghost use Rattle.token_file.specs.Props.{Fields_prop};
+ghost use Rattle.token_file.specs.Fields.{field_end, Checked, Noted};
+ghost use Rattle.token_file.specs.Props.{Noted_prop};
 
 use lookup::Net;
 use model::{ProcessId, Token, Ty};
@@ -67,7 +67,7 @@ pub fn token_file(net: &Net, tokens: &[u8], fields: &mut [u16]) -> Result<(), us
 pub struct Feed<'a> {
     pub site: Site<'a>,
     pub fields: &'a [u16],
-    pub ghost noted: { Fields site.plan.net.file.now site.plan.net.table.now site.tokens.now fields.now site.plan.net.counts } by { Fields_prop site.plan.net.file.now site.plan.net.table.now site.tokens.now fields.now site.plan.net.counts },
+    pub ghost noted: { Noted site fields.now } by { Noted_prop site fields.now },
 }
 
 impl<'a> Feed<'a> {

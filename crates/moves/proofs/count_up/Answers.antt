@@ -9,5 +9,4 @@ use Rattle.moves.proofs.count_up.Goals as goal
 pub returns : goal.returns
 unfolding count_bytes
 returns c =
-    let start = c in
-    c.put_two.ensures ∙ ap (λ (k : ℕ). two_bytes (k + 1) ++ drop 2 start.args.s.now) c.two_at-n.ensures.0
+    c.put_two.ensures ∙ ap (λ (k : ℕ). two_bytes (k + 1) ++ drop 2 c.args.s.now) c.two_at-n.ensures.0

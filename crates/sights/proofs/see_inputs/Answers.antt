@@ -29,4 +29,7 @@ returns c =
     let l = c.loop-j in
     let ins = (box_in c.args.site.now.plan.net c.args.k.0).ins in
     let all : l.j ≡ length ins = omega arith in
-    (subst (λ (j : ℕ). Oldest (state_at c.args.site.now c.args.state.now) ins j l.heads l.vals) all l.invariant.0, l.invariant.1)
+    record {
+      oldest = subst (λ (j : ℕ). Oldest (state_at c.args.site.now c.args.state.now) ins j l.heads l.vals) all l.invariant.0;
+      variables = l.invariant.1;
+    }

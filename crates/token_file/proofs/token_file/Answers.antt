@@ -30,7 +30,9 @@ pub loop-i-preserved : goal.loop-i-preserved
 loop-i-preserved c =
     let l = c.loop-i in
     let h = c.args.net.now.tabled in
-    let went = end_some _ _ (noted c.args.tokens.now l.fields l.i) l.i _ _ (types_known _ _ _ h _ c.loop-i-test.true) c.input_type-t.ensures.0 c.in_ok-end.end (sym c.in_ok-end.ensures.ok_part ∙ c.field_end.ensures) in
+    let known = types_known _ _ _ h _ c.loop-i-test.true in
+    let some = sym c.in_ok-end.ensures.ok_part ∙ c.field_end.ensures in
+    let went = end_some _ _ (noted c.args.tokens.now l.fields l.i) l.i _ _ known c.input_type-t.ensures.0 c.in_ok-end.end some in
     (went.below, upto_next _ _ _ _ _ _ l.invariant.1 (omega (arith, h.within)) went)
 
 pub returns-then-at-tokens : goal.returns-then-at-tokens
