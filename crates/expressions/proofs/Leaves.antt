@@ -25,6 +25,9 @@ pub record Leaf : Type 0 where
   pub whole : head_fits (drop at s) ≡ true
   pub bare : operands (get_or s at 0) ≡ 0
 
+abbrev pub leaf_at : (s : List ℕ) (at : ℕ) {c : ℕ} → c ≡ get_or s at 0 → at ≤ length s → head_fits (drop at s) ≡ true → operands (get_or s at 0) ≡ 0 → Leaf
+leaf_at s at {c} e l w o = record { s = s; at = at; c = c; head = e; inside = l; whole = w; bare = o }
+
 module _ (x : Leaf) where
   pub leaf_there : get_or (drop x.at x.s) 0 0 ≡ x.c
   leaf_there = head_at x.at x.s ∙ sym x.head

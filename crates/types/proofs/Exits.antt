@@ -5,17 +5,18 @@ use mathlib.Core.Bool.{true, ◌&&◌}
 use mathlib.Core.List.{List, [], ◌∷◌, ◌++◌, append_assoc}
 use Prim.Native.Nat.{ℕ, ◌+◌, ◌-◌, ◌≤◌, ◌<◌}
 use native.Mathlib.Omega.{arith}
+use lib.Dec.{eqb, leb}
 use lib.ListN.{drop, length}
 use Rattle.std.specs.Prelude.{Result, Ok, Err}
 use Rattle.model.specs.declared.Ty.{Ty}
 use Rattle.model.specs.Values.{is_bool, same_type}
-use Rattle.model.specs.Expressions.{Exp, Read, got, head_size, operands, type_at, build, expression, Scope, Typed, typed, ill, judged, two_type, type_of}
+use Rattle.model.specs.Expressions.{Exp, Read, got, head_size, operands, type_at, build, expression, Scope, Typed, typed, ill, judged, one_type, two_type, type_of}
 use Rattle.expressions.specs.Reading.{fits_at}
 use Rattle.expressions.proofs.Parts.{sizes, sizes_append, size_is}
 use Rattle.expressions.proofs.Turns.{Call, deep, all, count_all, Reached, begin, next, counted, last}
 use Rattle.types.specs.declared.Typed.{Typed as TypedTo}
-use Rattle.types.specs.Scopes.{placed, typed_at}
-use Rattle.types.proofs.Judging.{typed_there, Typeds, none, typeds_end, typeds_length, one_rule, type_one, type_two, type_if, next-ill, type_drop}
+use Rattle.types.specs.Scopes.{given, by_rule, placed, typed_at}
+use Rattle.types.proofs.Judging.{Judges, judges_if, placed_by, typed_there, Typeds, none, typeds_end, typeds_length, one_rule, type_one, type_two, type_if, next-ill, type_drop}
 
 -- an answer that is a fault: where
 ill_there : (m : ℕ) (sc : Scope) (at : ℕ) (r : Read Exp) {e : Exp} {n : ℕ} → r ≡ got e n → typed_at sc at r ≡ Err m → (k : ℕ) × ((type_of sc e ≡ ill k) × (at + k ≡ m))
@@ -76,18 +77,23 @@ module _ {sc : Scope} {x : Call} {ts : List Ty} {k at : ℕ} (j : Judged sc x ts
       answer sc x (j.done ++ (y.e ∷ r)) t (next-ill sc x j.types y.e r n z.1.0) ∙ ap Err w
 
   -- no operand is left
-  ended : {y : Typed} → length ts ≡ x.k → type_of sc (build (drop x.at x.s) j.done) ≡ y → (x.at ≤ at) × (answer_at sc x x.at ≡ placed x.at (at - x.at) y)
-  ended {y} e b =
-      let w = last j.reached (omega (arith, e, x.count, counted j.reached, typeds_length j.types)) in
-      let n : (all x).size ≡ at - x.at = omega (arith, w.1) in
-      (omega (arith, w.1), answer sc x j.done w.0 b ∙ ap (λ (i : ℕ). placed x.at i y) n)
+  ended : {y : Typed} → length ts ≡ x.k → Judges y → type_of sc (build (drop x.at x.s) j.done) ≡ y → by_rule x.at at (given y) ≡ answer_at sc x x.at
+  ended {y} e w b =
+      let l = last j.reached (omega (arith, e, x.count, counted j.reached, typeds_length j.types)) in
+      let n : (all x).size ≡ at - x.at = omega (arith, l.1) in
+      placed_by x.at at (omega (arith, l.1)) w ∙ sym (answer sc x j.done l.0 b ∙ ap (λ (i : ℕ). placed x.at i y) n)
 
 module _ {sc : Scope} {x : Call} {k at : ℕ} where
-  pub exit_one : {t named : Ty} → Judged sc x (t ∷ []) k at → x.k ≡ 1 → named ≡ type_at x.s (x.at + 1) → (x.at ≤ at) × (answer_at sc x x.at ≡ placed x.at (at - x.at) (one_rule x.c named t))
-  exit_one j e q = ended j (sym e) (type_one sc x e j.types ∙ rw (q, type_drop x.at x.s 1))
+  pub exit_one : {t named : Ty} → Judged sc x (t ∷ []) k at → x.k ≡ 1 → named ≡ type_at x.s (x.at + 1) → by_rule x.at at (given (one_rule x.c named t)) ≡ answer_at sc x x.at
+  unfolding one_type
+  exit_one j e q = ended j (sym e) (judges_if (eqb x.c 3) (_, _, refl) (_, _, refl)) (type_one sc x e j.types ∙ rw (q, type_drop x.at x.s 1))
 
-  pub exit_two : {t v : Ty} → Judged sc x (t ∷ v ∷ []) k at → x.k ≡ 2 → (x.at ≤ at) × (answer_at sc x x.at ≡ placed x.at (at - x.at) (two_type x.c t v))
-  exit_two j e = ended j (sym e) (type_two sc x e j.types)
+  pub exit_two : {t v : Ty} → Judged sc x (t ∷ v ∷ []) k at → x.k ≡ 2 → by_rule x.at at (given (two_type x.c t v)) ≡ answer_at sc x x.at
+  unfolding two_type
+  exit_two {t} {v} j e = ended j (sym e) judges_two (type_two sc x e j.types)
+    where
+      judges_two : Judges (two_type x.c t v)
+      judges_two = judges_if (leb x.c 17) (_, _, refl) (judges_if (leb x.c 19) (_, _, refl) (judges_if (leb x.c 21) (_, _, refl) (judges_if (leb x.c 25) (_, _, refl) (_, _, refl))))
 
-  pub exit_if : {b t v : Ty} → Judged sc x (b ∷ t ∷ v ∷ []) k at → x.k ≡ 3 → (x.at ≤ at) × (answer_at sc x x.at ≡ placed x.at (at - x.at) (judged (is_bool b && same_type t v) t))
-  exit_if j e = ended j (sym e) (type_if sc x e j.types)
+  pub exit_if : {b t v : Ty} → Judged sc x (b ∷ t ∷ v ∷ []) k at → x.k ≡ 3 → by_rule x.at at (given (judged (is_bool b && same_type t v) t)) ≡ answer_at sc x x.at
+  exit_if j e = ended j (sym e) (_, _, refl) (type_if sc x e j.types)

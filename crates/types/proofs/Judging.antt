@@ -10,6 +10,7 @@ use lib.ListN.{get_or, drop, length, length-append}
 use lib.Seq.{get_or-drop}
 use borrow.Author.Tests.{lt-leb, eqb-true, eqb-false, ne_eqb}
 use Rattle.std.specs.Prelude.{Ok, Err}
+use Rattle.std.specs.Bool.{then_some}
 use Rattle.model.specs.declared.Ty.{Ty}
 use Rattle.model.specs.Values.{is_bool, is_number, same_type}
 use Rattle.model.specs.Expressions.{Exp, Read, got, head_size, operands, type_at, build, Scope, Typed, typed, ill, judged, operand_at, one_type, two_type, type_of, size_of}
@@ -18,14 +19,35 @@ use Rattle.expressions.proofs.Shapes.{one_operand, two_operands, three_operands,
 use Rattle.expressions.proofs.Parts.{sizes}
 use Rattle.expressions.proofs.Turns.{Call, there}
 use Rattle.types.specs.declared.Typed.{Typed as TypedTo}
-use Rattle.types.specs.Scopes.{placed, typed_at}
+use Rattle.types.specs.Scopes.{given, by_rule, placed, typed_at}
 
 -- ── answers ──────────────────────────────────────────────────────────────────────────────────
 
-pub judged_is : (b : Bool) (t : Ty) (at next : ℕ) → at ≤ next → cond b (Ok (record { ty = t; next = next })) (Err at) ≡ placed at (next - at) (judged b t)
-unfolding placed judged
-judged_is true t at next l = let q : next ≡ at + (next - at) = omega arith in ap (λ (n : ℕ). Ok (record { ty = t; next = n })) q
-judged_is false t at next l = let q : at ≡ at + 0 = omega arith in ap Err q
+pub given_judged : (b : Bool) (t : Ty) → given (judged b t) ≡ then_some b t
+unfolding given judged
+given_judged true t = refl
+given_judged false t = refl
+
+-- a rule that holds if p does, judged by b
+pub given_by : {b p : Bool} (t : Ty) {y : Typed} → y ≡ judged p t → b ≡ p → then_some b t ≡ given y
+given_by {b} {p} t e q = ap (λ (c : Bool). then_some c t) q ∙ sym (ap given e ∙ given_judged p t)
+
+-- what a rule judges: a type, if it holds, and else a fault where the expression stands
+abbrev pub Judges : Typed → Type 0
+Judges y = (b : Bool) × (t : Ty) × (y ≡ judged b t)
+
+pub judges_if : (q : Bool) {x y : Typed} → Judges x → Judges y → Judges (cond q x y)
+judges_if true v w = v
+judges_if false v w = w
+
+-- the answer by the type that a rule gives, with the offset after the operands
+pub placed_by : {y : Typed} (at next : ℕ) → at ≤ next → Judges y → by_rule at next (given y) ≡ placed at (next - at) y
+unfolding by_rule given placed judged
+placed_by at next l w = rw w.2 (go w.0 w.1)
+  where
+    go : (b : Bool) (t : Ty) → by_rule at next (given (judged b t)) ≡ placed at (next - at) (judged b t)
+    go true t = let q : next ≡ at + (next - at) = omega arith in ap (λ (n : ℕ). Ok (record { ty = t; next = n })) q
+    go false t = let q : at ≡ at + 0 = omega arith in ap Err q
 
 placed_typed : {t : TypedTo} (at n : ℕ) (x : Typed) → placed at n x ≡ Ok t → (x ≡ typed t.ty) × (at + n ≡ t.next)
 unfolding placed

@@ -1,16 +1,15 @@
 -- Literals and references: their types, where they stand in the bytes.
 -- Assumes nothing.
-use mathlib.Core.Path.{◌≡◌, refl, sym, ap, ◌∙◌}
-use mathlib.Core.Bool.{Bool, true, cond, ◌&&◌}
+use mathlib.Core.Path.{◌≡◌, refl, sym, ◌∙◌}
+use mathlib.Core.Bool.{Bool, true, false, cond, ◌&&◌}
 use mathlib.Core.List.{List, []}
 use Prim.Native.Nat.{ℕ, zero, suc, ◌+◌, ◌-◌, ◌*◌}
 use native.Mathlib.Omega.{arith}
-use lib.Dec.{ltb}
+use lib.Dec.{ltb, eqb}
 use lib.IntN.{ℤ}
 use lib.ListN.{get_or, drop}
 use lib.Seq.{get_or-drop}
-use borrow.Author.Tests.{le-ltb}
-use Rattle.std.specs.Prelude.{Result, Ok, Err}
+use borrow.Author.Tests.{le-ltb, eqb-true, eqb-false}
 use Rattle.model.specs.declared.Ty.{Ty}
 use Rattle.model.specs.Bytes.{value_at, four_at}
 use Rattle.model.specs.Values.{is_plain, within, no_type}
@@ -18,9 +17,8 @@ use Rattle.model.specs.Expressions.{Exp, Read, bad, got, head_size, type_at, bui
 use Rattle.expressions.specs.Reading.{shallow, fits_at, limits_read}
 use Rattle.expressions.proofs.Leaves.{Leaf, leaf_there, leaf_read, leaf_two}
 use Rattle.expressions.proofs.Shapes.{build-literal, build-matched, build-variable}
-use Rattle.types.specs.declared.Typed.{Typed as TypedTo}
-use Rattle.types.specs.Scopes.{scope_in, placed, typed_at}
-use Rattle.types.proofs.Judging.{judged_is, type_drop}
+use Rattle.types.specs.Scopes.{scope_in, given, by_rule, typed_at}
+use Rattle.types.proofs.Judging.{Judges, placed_by, type_drop}
 
 pub value_drop : (at : ℕ) (s : List ℕ) → value_at (drop at s) 3 ≡ value_at s (at + 3)
 unfolding value_at four_at
@@ -55,37 +53,37 @@ named_in ts from i = cond (ltb i 4) (type_at ts (from + 2 * i)) no_type
 -- ── a leaf ───────────────────────────────────────────────────────────────────────────────────
 
 module _ (x : Leaf) where
-  abbrev type_there : Scope → Result TypedTo ℕ
-  type_there sc = typed_at sc x.at (expression (drop x.at x.s))
+  -- what stands there, and its type
+  abbrev pub leaf : Exp
+  leaf = build (drop x.at x.s) []
 
-  abbrev answer : Bool → Ty → ℕ → Result TypedTo ℕ
-  answer b t n = cond b (Ok (record { ty = t; next = x.at + n })) (Err x.at)
+  pub leaf_literal : (sc : Scope) {t : Ty} {z : ℤ} → x.c ≡ 0 → t ≡ type_at x.s (x.at + 1) → z ≡ value_at x.s (x.at + 3) → type_of sc leaf ≡ judged (is_plain t && within t z) t
+  unfolding type_of
+  leaf_literal sc e q v = rw (build-literal (drop x.at x.s) x.c (leaf_there x) [] e, type_drop x.at x.s 1, value_drop x.at x.s, v, q)
 
-  leaf_answer : (sc : Scope) (b : Bool) (t : Ty) (n : ℕ) → type_of sc (build (drop x.at x.s) []) ≡ judged b t → head_size x.c ≡ n → answer b t n ≡ type_there sc
+  module _ (ts : List ℕ) {t : Ty} {i : ℕ} (n : i ≡ get_or x.s (x.at + 1) 0) where
+    pub leaf_matched : x.c ≡ 1 → t ≡ named_in ts 0 i → type_of (scope_in ts) leaf ≡ judged (is_plain t) t
+    unfolding type_of
+    leaf_matched e q = rw (build-matched (drop x.at x.s) x.c (leaf_there x) [] e, get_or-drop x.at x.s 1 0, sym n, ins_is ts i, q)
+
+    pub leaf_variable : x.c ≡ 2 → t ≡ named_in ts 8 i → type_of (scope_in ts) leaf ≡ judged (is_plain t) t
+    unfolding type_of
+    leaf_variable e q = rw (build-variable (drop x.at x.s) x.c (leaf_there x) [] e, get_or-drop x.at x.s 1 0, sym n, vars_is ts i, q)
+
+  leaf_judges : (ts : List ℕ) → Judges (type_of (scope_in ts) leaf)
+  leaf_judges ts = go (eqb x.c 0) (eqb x.c 1) refl refl
+    where
+      go : (a b : Bool) → eqb x.c 0 ≡ a → eqb x.c 1 ≡ b → Judges (type_of (scope_in ts) leaf)
+      go true b e f = (_, _, leaf_literal (scope_in ts) (eqb-true x.c 0 e) refl refl)
+      go false true e f = (_, _, leaf_matched ts refl (eqb-true x.c 1 f) refl)
+      go false false e f = (_, _, leaf_variable ts refl (leaf_two x (eqb-false x.c 0 e) (eqb-false x.c 1 f)) refl)
+
+  -- the answer of a leaf
+  pub leaf_answer : (ts : List ℕ) → by_rule x.at (x.at + head_size x.c) (given (type_of (scope_in ts) leaf)) ≡ typed_at (scope_in ts) x.at (expression (drop x.at x.s))
   unfolding typed_at
-  leaf_answer sc b t n e z =
-      let w : x.at + n - x.at ≡ head_size x.c + 0 = omega arith in
-      judged_is b t x.at (x.at + n) (omega arith) ∙ ap (λ (i : ℕ). placed x.at i (judged b t)) w ∙ rw (leaf_read x) (ap (placed x.at (head_size x.c + 0)) (sym e))
-
-  pub leaf_literal : (sc : Scope) {b f : Bool} {t : Ty} {y z : ℤ} → x.c ≡ 0 → t ≡ type_at x.s (x.at + 1) → z ≡ value_at x.s (x.at + 3) → y ≡ z → b ≡ is_plain t → f ≡ within t y → answer (b && f) t 7 ≡ type_there sc
-  unfolding type_of head_size
-  leaf_literal sc {b} {f} {t} {y} {z} e q v i p w =
-      let l : type_of sc (build (drop x.at x.s) []) ≡ judged (b && f) t = rw (build-literal (drop x.at x.s) x.c (leaf_there x) [] e, type_drop x.at x.s 1, value_drop x.at x.s, p, w, i, v, q) in
-      leaf_answer sc (b && f) t 7 l (rw e)
-
-  module _ (ts : List ℕ) {b : Bool} {t : Ty} {i : ℕ} (n : i ≡ get_or x.s (x.at + 1) 0) where
-    pub leaf_matched : x.c ≡ 1 → t ≡ named_in ts 0 i → b ≡ is_plain t → answer b t 2 ≡ type_there (scope_in ts)
-    unfolding type_of head_size
-    leaf_matched e q p =
-        let l : type_of (scope_in ts) (build (drop x.at x.s) []) ≡ judged b t = rw (build-matched (drop x.at x.s) x.c (leaf_there x) [] e, get_or-drop x.at x.s 1 0, sym n, ins_is ts i, p, q) in
-        leaf_answer (scope_in ts) b t 2 l (rw e)
-
-    pub leaf_variable : (x.c ≡ 0 → ⊥) → (x.c ≡ 1 → ⊥) → t ≡ named_in ts 8 i → b ≡ is_plain t → answer b t 2 ≡ type_there (scope_in ts)
-    unfolding type_of head_size
-    leaf_variable f g q p =
-        let e = leaf_two x f g in
-        let l : type_of (scope_in ts) (build (drop x.at x.s) []) ≡ judged b t = rw (build-variable (drop x.at x.s) x.c (leaf_there x) [] e, get_or-drop x.at x.s 1 0, sym n, vars_is ts i, p, q) in
-        leaf_answer (scope_in ts) b t 2 l (rw e)
+  leaf_answer ts =
+      let q : x.at + head_size x.c - x.at ≡ head_size x.c + 0 = omega arith in
+      placed_by x.at (x.at + head_size x.c) (omega arith) (leaf_judges ts) ∙ rw (q, leaf_read x)
 
 -- the limits of the whole
 pub limits_fit : (r : Read Exp) → limits_read r ≡ true → fits_at 16 r ≡ true

@@ -1,5 +1,4 @@
 -- Laws of types, and the proofs of the code.
 pub mod Judging
-pub mod Families
 pub mod Exits
 pub mod Leaves

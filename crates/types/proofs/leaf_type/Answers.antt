@@ -1,44 +1,42 @@
-use mathlib.Core.Path.{◌∙◌}
-use native.Mathlib.Omega.{arith}
+use Rattle.std.proofs.Common.{sym, ◌∙◌, arith}
 use Rattle.values.proofs.Machine.{back}
-use Rattle.expressions.proofs.Leaves.{Leaf, leaf_inside, leaf_precise}
+use Rattle.expressions.proofs.Leaves.{leaf_at, leaf_inside, leaf_precise, leaf_two}
 use Rattle.types.specs.Scopes.{scope_in}
+use Rattle.types.proofs.Judging.{given_by}
 use Rattle.types.proofs.Leaves.{leaf_literal, leaf_matched, leaf_variable}
 use Rattle.types.proofs.leaf_type.Goals as goal
+use Rattle.types.proofs.leaf_type.Goals.{then-is_plain, else-is_plain, then-c-eq1, else-c-eq1}
 
 pub type_at-t-requires : goal.type_at-t-requires
 type_at-t-requires c =
-    let a = c.args in
     let q = c.requires in
-    let x : Leaf = record { s = a.s.now; at = a.at; c = c.byte_at-c.result; head = c.byte_at-c.ensures; inside = q.at_in_bounds; whole = q.s_value; bare = q.at_value } in
-    omega (arith, leaf_inside x)
+    omega (arith, leaf_inside (leaf_at c.args.s.now c.args.at c.byte_at-c.ensures q.at_in_bounds q.s_value q.at_value))
 
-pub within-fits-requires : goal.within-fits-requires
-within-fits-requires c =
-    let a = c.args in
+pub within-requires : goal.within-requires
+within-requires c =
     let q = c.requires in
-    let x : Leaf = record { s = a.s.now; at = a.at; c = c.byte_at-c.result; head = c.byte_at-c.ensures; inside = q.at_in_bounds; whole = q.s_value; bare = q.at_value } in
-    let need = leaf_precise x c.if-c-eq0.true q.s_value_2 c.type_at-t.ensures in
-    record { le_p = need.0; p_bound = need.1 }
+    let x = leaf_at c.args.s.now c.args.at c.byte_at-c.ensures q.at_in_bounds q.s_value q.at_value in
+    let p = leaf_precise x c.if-c-eq0.true q.s_value_2 c.type_at-t.ensures in
+    record { le_p = p.0; p_bound = p.1 }
 
 pub returns-then-c-eq0 : goal.returns-then-c-eq0
 returns-then-c-eq0 c =
-    let a = c.args in
     let q = c.requires in
-    let x : Leaf = record { s = a.s.now; at = a.at; c = c.byte_at-c.result; head = c.byte_at-c.ensures; inside = q.at_in_bounds; whole = q.s_value; bare = q.at_value } in
-    let e = leaf_literal x (scope_in a.types.now) c.if-c-eq0.true c.type_at-t.ensures c.value_at-z.ensures.0 in
-    c.judge.ensures ∙ e (back (omega (arith, c.value_at-z.ensures.1))) c.is_plain-plain.ensures c.within-fits.ensures
-
-pub returns-then-c-eq1 : goal.returns-then-c-eq1
-returns-then-c-eq1 c =
-    let a = c.args in
-    let q = c.requires in
-    let x : Leaf = record { s = a.s.now; at = a.at; c = c.byte_at-c.result; head = c.byte_at-c.ensures; inside = q.at_in_bounds; whole = q.s_value; bare = q.at_value } in
-    c.judge-then-c-eq1.ensures ∙ leaf_matched x a.types.now c.byte_at-i.ensures c.if-c-eq1.true c.named-t.ensures c.is_plain.ensures
+    let x = leaf_at c.args.s.now c.args.at c.byte_at-c.ensures q.at_in_bounds q.s_value q.at_value in
+    let literal = leaf_literal x (scope_in c.args.types.now) c.if-c-eq0.true c.type_at-t.ensures c.value_at-z.ensures.0 in
+    let value = back {z = c.value_at-z.result} (omega (arith, c.value_at-z.ensures.1)) in
+    c.then_some.ensures
+    ∙ elim c.if-is_plain.branch [
+      | then-is_plain w ↦ given_by _ literal (w.then_some-is ∙ w.within.ensures ∙ rw (value, sym c.is_plain.ensures ∙ w.if-is_plain.true))
+      | else-is_plain w ↦ given_by _ literal (w.then_some-is ∙ w.if-is_plain.false ∙ rw (sym c.is_plain.ensures ∙ w.if-is_plain.false))
+    ]
 
 pub returns : goal.returns
 returns c =
-    let a = c.args in
     let q = c.requires in
-    let x : Leaf = record { s = a.s.now; at = a.at; c = c.byte_at-c.result; head = c.byte_at-c.ensures; inside = q.at_in_bounds; whole = q.s_value; bare = q.at_value } in
-    c.judge-2.ensures ∙ leaf_variable x a.types.now c.byte_at-i.ensures c.if-c-eq0.false c.if-c-eq1.false c.named-t-2.ensures c.is_plain-2.ensures
+    let x = leaf_at c.args.s.now c.args.at c.byte_at-c.ensures q.at_in_bounds q.s_value q.at_value in
+    c.then_some-2.ensures
+    ∙ elim c.if-c-eq1.branch [
+      | then-c-eq1 w ↦ given_by _ (leaf_matched x c.args.types.now c.byte_at.ensures w.if-c-eq1.true (rw w.from-is at c.named-t.ensures)) c.is_plain-2.ensures
+      | else-c-eq1 w ↦ given_by _ (leaf_variable x c.args.types.now c.byte_at.ensures (leaf_two x c.if-c-eq0.false w.if-c-eq1.false) (rw w.from-is at c.named-t.ensures)) c.is_plain-2.ensures
+    ]
