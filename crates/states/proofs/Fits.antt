@@ -1,20 +1,20 @@
 -- The check of a saved state, wire by wire and process by process.
 -- Assumes nothing.
-use Prim.Native.Nat.{ℕ, zero, suc, ◌+◌, ◌-◌, ◌*◌, ◌≤◌, ◌<◌}
+use Prim.Native.Nat.{ℕ, ◌+◌, ◌-◌, ◌*◌, ◌≤◌, ◌<◌}
 use mathlib.Core.Path.{◌≡◌, refl, sym, ap, ap₂, ◌∙◌}
 use mathlib.Core.Bool.{Bool, true, false, not, ◌&&◌, ◌||◌}
-use mathlib.Core.List.{List, [], ◌++◌, map, zip_with}
+use mathlib.Core.List.{List, [], map}
 use native.Mathlib.Omega.{arith}
 use native.Mathlib.Nat.{add-sub_cancel_left}
 use lib.Dec.{leb}
-use lib.ListN.{length, get_or, take, drop, length-map}
+use lib.ListN.{length, get_or, drop, length-map}
 use borrow.Rule.Slice.PartMut.{mid_len}
 use Rattle.model.specs.declared.Ty.{Ty}
 use Rattle.model.specs.declared.Token.{Token}
 use Rattle.model.specs.Bytes.{two_at}
-use Rattle.model.specs.Network.{Wire, Proc, box, input, output, Net, wire, proc, no_wire, nobody}
-use Rattle.model.specs.NetworkFile.{Index, tabulate, body_at, box_of, net_of}
-use Rattle.model.specs.States.{tokens_in, wire_size, own_size, wires_size, sum, room_fits, wire_fits, values_fit, own_fits, split, all_true, state_fits}
+use Rattle.model.specs.Network.{Wire, Proc, Net, wire, proc, no_wire, nobody}
+use Rattle.model.specs.NetworkFile.{Index, body_at, box_of, net_of}
+use Rattle.model.specs.States.{wire_size, own_size, wires_size, sum, room_fits, wire_fits, values_fit, own_fits, state_fits}
 use Rattle.model.proofs.Decoded.{get_d_map_lt}
 use Rattle.model.proofs.Lookup.{wires_length, procs_length, box_proc}
 use Rattle.table.specs.declared.Counts.{Counts}
@@ -25,11 +25,10 @@ use Rattle.lookup.specs.Ends.{wire_at, room_at}
 use Rattle.lookup.proofs.Tabled.{valid, n_wires, n_boxes, n_inputs, n_outputs, input_is, output_is}
 use Rattle.tokens.specs.Parts.{Precise}
 use Rattle.tokens.proofs.Lifts.{precise, fits_box, fits_output}
-use Rattle.tokens.proofs.Turns.{all_fit, state_fits_lem, fit_turn, fit_done, start_turn}
+use Rattle.tokens.proofs.Turns.{state_fits_lem, fit_turn, fit_done, start_turn}
 use Rattle.tokens.proofs.Groups.{fits_input}
-use Rattle.places.specs.Standing.{bare_net, tokens_of, net_in}
 use Rattle.places.proofs.Standing.{own_sizes}
-use Rattle.states.specs.Saved.{Known, wires_fit, owns_fit}
+use Rattle.states.specs.Saved.{wires_fit, owns_fit}
 
 -- ── the loops ────────────────────────────────────────────────────────────────────────────────
 
@@ -65,9 +64,9 @@ module _ (n : Net) (st : List ℕ) where
     state_is = state_fits_lem n counted st ∙ (let z : wires_size n + 0 ≡ wires_size n = omega arith in rw z refl)
 
 -- the wires are those of the network without tokens
-pub wires_same : (s t ts : List ℕ) (c : Counts) (st : List ℕ) → wires_fit (bare_net s t c) 0 st ≡ wires_fit (net_in s t c ts) 0 st
-unfolding wires_fit wire_start bare_net net_in net_of
-wires_same s t ts c st = refl
+pub wires_same : (s : List ℕ) (y : Index) (tokens : List (List Token)) (st : List ℕ) → wires_fit (net_of s y []) 0 st ≡ wires_fit (net_of s y tokens) 0 st
+unfolding wires_fit wire_start net_of
+wires_same s y tokens st = refl
 
 -- ── one wire ─────────────────────────────────────────────────────────────────────────────────
 
@@ -105,86 +104,55 @@ module _ (s t : List ℕ) (c : Counts) (h : Tabled s t c) where
       r ≡ room_fits (wire n (wire_at (proc n k))).ty (room_at (proc n k)) (two_at part 0) (drop 2 part)
   output_said k w m y part r e f g q = q ∙ ap₂ (λ (z : Ty) (j : ℕ). room_fits z j (two_at part 0) (drop 2 part)) (f ∙ ap (λ (v : ℕ). (wire n v).ty) e) g
 
-  module _ (ts : List ℕ) (counted : Bool) (part : List ℕ) where
+  -- the network with some tokens
+  module _ (tokens : List (List Token)) where
     abbrev n' : Net
-    n' = net_in s t c ts
+    n' = net_of s x tokens
 
-    pub box_part_lem : (k : ℕ) (body : List ℕ) (r : Bool) → k < c.boxes → body ≡ body_at s (get_or x.boxes k 0) → r ≡ values_fit (box_of body).vars part → r ≡ own_fits n' counted (proc n' k) part
-    unfolding net_in
-    box_part_lem k body r l e f =
-        f ∙ ap (λ (b : List ℕ). values_fit (box_of b).vars part) e
-        ∙ sym (fits_box s x k n' counted part) ∙ ap (λ (p : Proc). own_fits n' counted p part) (sym (box_proc s x (tokens_of s t c ts) k (omega (arith, n_boxes s t c h))))
+    module _ (counted : Bool) (part : List ℕ) where
+      pub box_part_lem : (k : ℕ) (body : List ℕ) (r : Bool) → k < c.boxes → body ≡ body_at s (get_or x.boxes k 0) → r ≡ values_fit (box_of body).vars part → r ≡ own_fits n' counted (proc n' k) part
+      box_part_lem k body r l e f =
+          f ∙ ap (λ (b : List ℕ). values_fit (box_of b).vars part) e
+          ∙ sym (fits_box s x k n' counted part) ∙ ap (λ (p : Proc). own_fits n' counted p part) (sym (box_proc s x tokens k (omega (arith, n_boxes s t c h))))
 
-    pub input_part : (i k : ℕ) (p : List ℕ) (r : Bool) → i ≡ k - c.boxes → c.boxes ≤ k → k < c.boxes + c.inputs → Known s t ts p c counted →
-        r ≡ (not counted || leb (two_at part 0) (length (tokens_in (body_at ts (get_or p i 0))))) → r ≡ own_fits n' counted (proc n' k) part
-    unfolding net_in
-    input_part i k p r e from to q f =
-        f ∙ by_counted counted (λ z. ap (λ (ks : List Token). length ks) (((q.fields z).each i (omega arith)).holds ∙ ap (λ (j : ℕ). get_or (tokens_of s t c ts) j []) e))
-        ∙ sym (ap (λ (v : Proc). own_fits n' counted v part) (input_is s t c h k from to (tokens_of s t c ts)) ∙ fits_input n' counted _ (get_or (tokens_of s t c ts) (k - c.boxes) []) part)
-      where
-        by_counted : {j k : ℕ} (b : Bool) → (b ≡ true → j ≡ k) → (not b || leb (two_at part 0) j) ≡ (not b || leb (two_at part 0) k)
-        by_counted true g = ap (leb (two_at part 0)) (g refl)
-        by_counted false g = refl
+      pub input_part : (i k : ℕ) (r : Bool) → i ≡ k - c.boxes → c.boxes ≤ k → k < c.boxes + c.inputs → r ≡ (not counted || leb (two_at part 0) (length (get_or tokens i []))) → r ≡ own_fits n' counted (proc n' k) part
+      input_part i k r e from to f =
+          f ∙ ap (λ (j : ℕ). not counted || leb (two_at part 0) (length (get_or tokens j []))) e
+          ∙ sym (ap (λ (v : Proc). own_fits n' counted v part) (input_is s t c h k from to tokens) ∙ fits_input n' counted _ (get_or tokens (k - c.boxes) []) part)
 
-    pub output_part : (k : ℕ) (r : Bool) → c.boxes + c.inputs ≤ k → k < c.boxes + c.inputs + c.outputs →
-        r ≡ room_fits (wire n (wire_at (proc n k))).ty (room_at (proc n k)) (two_at part 0) (drop 2 part) → r ≡ own_fits n' counted (proc n' k) part
-    unfolding net_in
-    output_part k r from to f =
-        let same : wire n (wire_at (proc n k)) ≡ wire n' (wire_at (proc n k)) = unfold wire net_of in refl in
-        f ∙ ap (λ (v : Wire). room_fits v.ty (room_at (proc n k)) (two_at part 0) (drop 2 part)) same
-        ∙ sym (ap (λ (v : Proc). own_fits n' counted v part) (output_is s t c h k from to (tokens_of s t c ts)) ∙ fits_output n' counted (wire_at (proc n k)) (room_at (proc n k)) part)
+      pub output_part : (k : ℕ) (r : Bool) → c.boxes + c.inputs ≤ k → k < c.boxes + c.inputs + c.outputs →
+          r ≡ room_fits (wire n (wire_at (proc n k))).ty (room_at (proc n k)) (two_at part 0) (drop 2 part) → r ≡ own_fits n' counted (proc n' k) part
+      output_part k r from to f =
+          let same : wire n (wire_at (proc n k)) ≡ wire n' (wire_at (proc n k)) = unfold wire net_of in refl in
+          f ∙ ap (λ (v : Wire). room_fits v.ty (room_at (proc n k)) (two_at part 0) (drop 2 part)) same
+          ∙ sym (ap (λ (v : Proc). own_fits n' counted v part) (output_is s t c h k from to tokens) ∙ fits_output n' counted (wire_at (proc n k)) (room_at (proc n k)) part)
 
-  -- places and sizes are those of the network without tokens
-  module _ (ts : List ℕ) where
-    pub procs_n : length (net_in s t c ts).procs ≡ c.boxes + c.inputs + c.outputs
-    unfolding net_in
-    procs_n = procs_length s x (tokens_of s t c ts) ∙ omega (arith, n_boxes s t c h, n_inputs s t c h, n_outputs s t c h)
+    -- places and sizes are those of the network without tokens
+    pub procs_n : length n'.procs ≡ c.boxes + c.inputs + c.outputs
+    procs_n = procs_length s x tokens ∙ omega (arith, n_boxes s t c h, n_inputs s t c h, n_outputs s t c h)
 
-    pub own-place : (k : ℕ) → own_start n k ≡ own_start (net_in s t c ts) k
-    unfolding own_start wires_size net_in net_of
-    own-place k = ap (λ (l : List ℕ). wires_size n + start_of l k) (sym (unfold net_of in own_sizes s x (tokens_of s t c ts)))
+    pub own-place : (k : ℕ) → own_start n k ≡ own_start n' k
+    unfolding own_start wires_size net_of
+    own-place k = ap (λ (l : List ℕ). wires_size n + start_of l k) (sym (unfold net_of in own_sizes s x tokens))
 
-    pub own_sized : (k : ℕ) → k < c.boxes + c.inputs + c.outputs → own_size (proc n k) ≡ own_size (proc (net_in s t c ts) k)
-    unfolding proc net_in
+    pub own_sized : (k : ℕ) → k < c.boxes + c.inputs + c.outputs → own_size (proc n k) ≡ own_size (proc n' k)
+    unfolding proc
     own_sized k l =
         sym (get_d_map_lt own_size n.procs k nobody 0 (omega (arith, procs_length s x [], n_boxes s t c h, n_inputs s t c h, n_outputs s t c h)))
-        ∙ ap (λ (z : List ℕ). get_or z k 0) (sym (own_sizes s x (tokens_of s t c ts)))
-        ∙ get_d_map_lt own_size (net_of s x (tokens_of s t c ts)).procs k nobody 0 (omega (arith, procs_length s x (tokens_of s t c ts), n_boxes s t c h, n_inputs s t c h, n_outputs s t c h))
+        ∙ ap (λ (z : List ℕ). get_or z k 0) (sym (own_sizes s x tokens))
+        ∙ get_d_map_lt own_size n'.procs k nobody 0 (omega (arith, procs_n))
 
-    pub own_part : (k a b : ℕ) (counted : Bool) (st : List ℕ) (r : Bool) → k < c.boxes + c.inputs + c.outputs → a ≡ own_start n k → b ≡ a + own_size (proc n k) → r ≡ own_fits (net_in s t c ts) counted (proc (net_in s t c ts) k) (mid a (b - a) st) →
-        r ≡ own_fits (net_in s t c ts) counted (proc (net_in s t c ts) k) (mid (own_start (net_in s t c ts) k) (own_size (proc (net_in s t c ts) k)) st)
+    pub own_part : (k a b : ℕ) (counted : Bool) (st : List ℕ) (r : Bool) → k < c.boxes + c.inputs + c.outputs → a ≡ own_start n k → b ≡ a + own_size (proc n k) → r ≡ own_fits n' counted (proc n' k) (mid a (b - a) st) →
+        r ≡ own_fits n' counted (proc n' k) (mid (own_start n' k) (own_size (proc n' k)) st)
     own_part k a b counted st r l p q f =
-        let d : b - a ≡ own_size (proc (net_in s t c ts) k) = omega (arith, q, own_sized k l) in
-        f ∙ ap₂ (λ (i j : ℕ). own_fits (net_in s t c ts) counted (proc (net_in s t c ts) k) (mid i j st)) (p ∙ own-place k) d
-
--- ── an input's count ───────────────────────────────────────────────────────
-
-pub input_said : (counted : Bool) (a b k m : ℕ) → counted ≡ true → a ≡ b → k ≡ m → leb a k ≡ (not counted || leb b m)
-input_said counted a b k m e f g = rw e (ap₂ leb f g)
+        let d : b - a ≡ own_size (proc n' k) = omega (arith, q, own_sized k l) in
+        f ∙ ap₂ (λ (i j : ℕ). own_fits n' counted (proc n' k) (mid i j st)) (p ∙ own-place k) d
 
 -- ── the whole state ──────────────────────────────────────────────────────────────────────────
 
-module _ (s t ts : List ℕ) (c : Counts) (counted : Bool) (st : List ℕ) (w : Bool) (e : w ≡ wires_fit (bare_net s t c) 0 st) where
-  pub state_wrong : w ≡ false → false ≡ state_fits (net_in s t c ts) counted st
-  state_wrong f = sym (state_is (net_in s t c ts) st counted ∙ ap (λ (b : Bool). b && owns_fit (net_in s t c ts) counted 0 st) (sym (wires_same s t ts c st) ∙ sym e ∙ f))
+module _ (s : List ℕ) (y : Index) (tokens : List (List Token)) (counted : Bool) (st : List ℕ) (w : Bool) (e : w ≡ wires_fit (net_of s y []) 0 st) where
+  pub state_wrong : w ≡ false → false ≡ state_fits (net_of s y tokens) counted st
+  state_wrong f = sym (state_is (net_of s y tokens) st counted ∙ ap (λ (b : Bool). b && owns_fit (net_of s y tokens) counted 0 st) (sym (wires_same s y tokens st) ∙ sym e ∙ f))
 
-  pub state_right : (r : Bool) → w ≡ true → r ≡ owns_fit (net_in s t c ts) counted 0 st → r ≡ state_fits (net_in s t c ts) counted st
-  state_right r f g = g ∙ sym (state_is (net_in s t c ts) st counted ∙ ap (λ (b : Bool). b && owns_fit (net_in s t c ts) counted 0 st) (sym (wires_same s t ts c st) ∙ sym e ∙ f))
-
--- ── without the taken counts the tokens don't matter ─────────────────────────────────────────
-
-alike : (f g : Proc → List ℕ → Bool) (k : ℕ) (p q : ℕ → Proc) (ps qs : List Proc) → ((i : ℕ) (l : List ℕ) → f (p i) l ≡ g (q i) l) → ((i : ℕ) → own_size (p i) ≡ own_size (q i)) →
-    ((l : List ℕ) → all_fit f own_size ps l ≡ all_fit g own_size qs l) → (l : List ℕ) → all_fit f own_size (tabulate k p ++ ps) l ≡ all_fit g own_size (tabulate k q ++ qs) l
-unfolding tabulate zip_with split all_true
-alike f g zero p q ps qs e z r l = r l
-alike f g (suc k) p q ps qs e z r l =
-    ap₂ (λ (a b : Bool). a && b) (e 0 (take (own_size (p 0)) l) ∙ ap (λ (m : ℕ). g (q 0) (take m l)) (z 0))
-    (alike f g k (λ i. p (suc i)) (λ i. q (suc i)) ps qs (λ i. e (suc i)) (λ i. z (suc i)) r (drop (own_size (p 0)) l)
-    ∙ ap (λ (m : ℕ). all_fit g own_size (tabulate k (λ i. q (suc i)) ++ qs) (drop m l)) (z 0))
-
-module _ (s : List ℕ) (y : Index) (a b : List (List Token)) where
-  own_loose : (p : Proc) (l : List ℕ) → own_fits (net_of s y a) false p l ≡ own_fits (net_of s y b) false p l
-  unfolding own_fits wire net_of
-  own_loose (box v) l = refl
-  own_loose (input w ks) l = refl
-  own_loose (output w room) l = refl
+  pub state_right : (r : Bool) → w ≡ true → r ≡ owns_fit (net_of s y tokens) counted 0 st → r ≡ state_fits (net_of s y tokens) counted st
+  state_right r f g = g ∙ sym (state_is (net_of s y tokens) st counted ∙ ap (λ (b : Bool). b && owns_fit (net_of s y tokens) counted 0 st) (sym (wires_same s y tokens st) ∙ sym e ∙ f))

@@ -1,3 +1,5 @@
 -- Laws of whole states.
-pub mod Loads
+pub mod Bases
 pub mod Fits
+pub mod Loads
+pub mod Sizes

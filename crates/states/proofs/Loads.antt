@@ -5,8 +5,8 @@ use mathlib.Core.Path.{◌≡◌, refl, sym, ap, ap₂, ◌∙◌}
 use mathlib.Core.List.{List, [], ◌++◌, map, append_assoc, append-nil}
 use native.Mathlib.Omega.{arith}
 use native.Mathlib.Nat.{add-sub_cancel_left, not-suc-le-zero, le_of_suc-le-suc}
-use lib.ListN.{length, get_or, take, drop, replicate, length-replicate, replicate-append-replicate}
-use lib.Seq.{drop_at, length-take-le}
+use lib.ListN.{length, get_or, drop, replicate, length-replicate, replicate-append-replicate}
+use lib.Seq.{drop_at}
 use Rattle.model.specs.declared.Token.{Token}
 use Rattle.model.specs.Network.{Proc, box, Net, proc, fresh, loaded}
 use Rattle.model.specs.NetworkFile.{Index, tabulate, body_at, box_of, box_at, net_of}
@@ -36,11 +36,8 @@ zeros_drop a b rest =
     ∙ drop_at (replicate a 0) (replicate b 0 ++ rest) a (length-replicate a 0)
 
 -- the part of k bytes at the start, cleared
-pub cleared : (st last : List ℕ) (size k : ℕ) → size ≤ length st → size ≡ k → last ≡ replicate (length (take (size - 0) (drop 0 st))) 0 → put_mid 0 (size - 0) st last ≡ replicate k 0 ++ drop k st
-cleared st last size k l e f =
-    let m : length (take (size - 0) st) ≡ size = length-take-le (size - 0) st (omega arith) ∙ omega arith in
-    let z : size - 0 ≡ k = omega arith in
-    ap₂ (λ (y : List ℕ) (i : ℕ). y ++ drop i st) (f ∙ ap (λ (i : ℕ). replicate i 0) (m ∙ e)) z
+pub cleared : (st last : List ℕ) (size k : ℕ) → size ≡ k → last ≡ replicate size 0 → last ++ drop size st ≡ replicate k 0 ++ drop k st
+cleared st last size k e f = ap₂ (λ (l : List ℕ) (i : ℕ). l ++ drop i st) (f ∙ ap (λ (i : ℕ). replicate i 0) e) e
 
 -- zeros and the first k boxes stand there
 abbrev pub loaded_boxes : (s t : List ℕ) (c : Counts) → List ℕ → ℕ → List ℕ

@@ -1,20 +1,46 @@
--- The check of a saved state: what is known of the token file, and what of the state is still to be looked at.
+-- The check of a saved state: what it is checked against, and what of the state is still to be looked at.
 -- Assumes nothing.
-use Rattle.std.specs.Prelude.{ℕ, ◌≡◌, Bool, true, get_or, drop}
-use mathlib.Core.List.{List, map, zip_with}
+use Rattle.std.specs.Prelude.{ℕ, ◌≡◌, ◌≤◌, Bool, true, false, not, ◌||◌, List, [], length, leb, get_or, drop}
+use mathlib.Core.List.{map, zip_with}
+use Rattle.model.specs.declared.Token.{Token}
+use Rattle.model.specs.Bytes.{two_at}
 use Rattle.model.specs.Network.{Net}
-use Rattle.model.specs.States.{wire_size, own_size, wire_fits, own_fits, split, all_true}
-use Rattle.model.proofs.Accepted.{InFile}
-use Rattle.table.specs.declared.Counts.{Counts}
+use Rattle.model.specs.NetworkFile.{net_of}
+use Rattle.model.specs.States.{wire_size, own_size, wire_fits, own_fits, split, all_true, state_size, state_fits}
 use Rattle.queues.specs.Segments.{wire_start, own_start}
-use Rattle.token_file.specs.Fields.{Fields}
+use Rattle.lookup.specs.Views.{index_of}
+use Rattle.places.specs.declared.Plan.{Plan}
+use Rattle.places.specs.Standing.{tokens_of}
+use Rattle.states.specs.declared.Basis.{Basis}
+use Rattle.states.specs.declared.Basis.TheVariants as basis
 
--- where taken counts are looked at, the fields of the token file are noted
-pub record Known (s t ts p : List ℕ) (c : Counts) (counted : Bool) : Type 0 where
-  pub fields : counted ≡ true → Fields s t ts p c
+-- the network with the places of a state's parts
+abbrev pub plan_of : Basis → Plan
+plan_of (basis.Network p) = p
+plan_of (basis.Files f) = f.site.plan
 
-pub record FieldIn (ts p : List ℕ) (counted : Bool) (i : ℕ) : Type 0 where  -- of input i
-  pub inside : counted ≡ true → InFile ts (get_or p i 0)
+-- taken counts are looked at
+abbrev pub counted : Basis → Bool
+counted (basis.Network p) = false
+counted (basis.Files f) = true
+
+-- the tokens of each input, none without a token file
+abbrev pub tokens_for : Basis → List (List Token)
+tokens_for (basis.Network p) = []
+tokens_for (basis.Files f) = let n = f.site.plan.net in tokens_of n.file.now n.table.now n.counts f.site.tokens.now
+
+-- the network with those tokens
+abbrev pub network_for : Basis → Net
+network_for b = let n = (plan_of b).net in net_of n.file.now (index_of n) (tokens_for b)
+
+-- input i has taken no more than its tokens, where that is looked at
+unfoldable pub input_fits : Basis → ℕ → List ℕ → Bool
+input_fits b i part = not (counted b) || leb (two_at part 0) (length (get_or (tokens_for b) i []))
+
+-- lent bytes hold a state of a network
+pub record Holds (n : Net) (counted : Bool) (st : List ℕ) : Type 0 where
+  pub long : state_size n ≤ length st
+  pub fits : state_fits n counted st ≡ true
 
 -- the wires from w on fit
 unfoldable pub wires_fit : Net → ℕ → List ℕ → Bool

@@ -1,234 +1,163 @@
 #![tactic(auto)]
 
-// A whole state in lent bytes: the load, and the check of a saved one.
-ghost use Rattle.std.specs.Prelude.{◌≡◌, not, ◌||◌, [], ◌++◌, ◌+◌, ◌*◌, ◌≤◌, ◌<◌, length, get_or, drop, leb};
+// A whole state in lent bytes: its size, the load, and the check of a saved one.
+ghost use Rattle.std.specs.Prelude.{◌≡◌, ◌++◌, ◌+◌, ◌*◌, ◌≤◌, ◌<◌, length, drop};
 ghost use Rattle.model.specs.Bytes.{two_at};
 ghost use Rattle.model.specs.Network.{wire, proc, fresh, loaded};
-ghost use Rattle.model.specs.NetworkFile.{body_at, net_of};
-ghost use Rattle.model.specs.States.{tokens_in, own_bytes, wire_size, own_size, bytes_of, state_size, room_fits, wire_fits, own_fits, state_fits};
+ghost use Rattle.model.specs.States.{own_bytes, wire_size, own_size, bytes_of, state_size, room_fits, wire_fits, own_fits, state_fits};
 ghost use Rattle.queues.specs.Segments.{mid, put_mid, wire_start, own_start};
-ghost use Rattle.table.specs.Table.{index_in};
 ghost use Rattle.lookup.specs.Ends.{wire_at, room_at};
-ghost use Rattle.lookup.specs.Tabled.{Tabled};
-ghost use Rattle.places.specs.Places.{Placed};
-ghost use Rattle.places.specs.Standing.{bare_net, net_in};
-ghost use Rattle.states.specs.Saved.{Known, FieldIn, wires_fit, owns_fit};
+ghost use Rattle.lookup.specs.Views.{network_of};
+ghost use Rattle.states.specs.Saved.{plan_of, network_for, counted, input_fits, wires_fit, owns_fit};
 
+use lookup::Net;
 use model::{ProcessId, WireId};
-use table::Counts;
+use places::Plan;
+use token_file::Feed;
+
+// How many bytes a state takes: where its last segment ends.
+pub fn size(plan: &Plan) -> usize
+    ensures { result ≡ state_size (network_of plan.now.net) }
+{
+    let c = plan.net.counts;
+    octets::entry(plan.starts, c.wires + c.boxes + c.inputs + c.outputs)
+}
 
 // The initial values of box k, written in its place.
-fn load_box(net: &[u8], table: &[u16], c: Counts, starts: &[u16], k: ProcessId, state: &mut [u8])
-    requires tabled { Tabled net.now table.now c }
-    requires placed { Placed (bare_net net.now table.now c) starts.now }
-    requires k_lt_boxes { k.0 < c.boxes }
-    requires c_in_bounds { state_size (bare_net net.now table.now c) ≤ length state.old }
-    ensures { state.new ≡ put_mid (own_start (bare_net net.now table.now c) k.0) (own_size (proc (bare_net net.now table.now c) k.0)) state.old (own_bytes (proc (bare_net net.now table.now c) k.0) (fresh (proc (bare_net net.now table.now c) k.0))) }
+fn load_box(plan: &Plan, k: ProcessId, state: &mut [u8])
+    requires k_lt_boxes { k.0 < plan.now.net.counts.boxes }
+    requires in_bounds { state_size (network_of plan.now.net) ≤ length state.old }
+    ensures { state.new ≡ put_mid (own_start (network_of plan.now.net) k.0) (own_size (proc (network_of plan.now.net) k.0)) state.old (own_bytes (proc (network_of plan.now.net) k.0) (fresh (proc (network_of plan.now.net) k.0))) }
 {
-    let span = places::own_span(net, table, c, starts, k);
-    let start = span.start;
-    let end = span.end;
-    let initial = lookup::box_body(net, table, c, k);
-    tokens::load_values(initial, &mut state[start..end]);
+    let span = plan.own_span(k);
+    tokens::load_values(plan.net.box_body(k), &mut state[span.start..span.end]);
 }
 
 // A load: zeros for all of the state, then the initial values of each box. Bytes beyond the state's size stay.
-pub fn load(net: &[u8], table: &[u16], c: Counts, starts: &[u16], size: usize, state: &mut [u8])
-    requires tabled { Tabled net.now table.now c }
-    requires placed { Placed (bare_net net.now table.now c) starts.now }
-    requires size_value { size ≡ state_size (bare_net net.now table.now c) }
-    requires size_in_bounds { size ≤ length state.old }
-    ensures { state.new ≡ bytes_of (bare_net net.now table.now c) (loaded (bare_net net.now table.now c)) ++ drop (state_size (bare_net net.now table.now c)) state.old }
+pub fn load(plan: &Plan, state: &mut [u8])
+    requires { state_size (network_of plan.now.net) ≤ length state.old }
+    ensures { state.new ≡ bytes_of (network_of plan.now.net) (loaded (network_of plan.now.net)) ++ drop (state_size (network_of plan.now.net)) state.old }
 {
-    queues::clear(&mut state[0..size]);
-    let boxes = c.boxes;
-    let mut k: usize = 0;
-    while k < boxes {
-        load_box(net, table, c, starts, ProcessId(k as u8), state);
-        k += 1;
+    let size = size(plan);
+    state[..size].fill(0);
+    for k in 0..plan.net.counts.boxes {
+        load_box(plan, ProcessId(k as u8), state);
     }
 }
 
 // The bytes of a wire hold a queue of it.
-fn wire_fits(net: &[u8], table: &[u16], c: Counts, starts: &[u16], w: WireId, state: &[u8]) -> bool
-    requires tabled { Tabled net.now table.now c }
-    requires placed { Placed (bare_net net.now table.now c) starts.now }
-    requires w_lt_wires { w.0 < c.wires }
-    requires c_in_bounds { state_size (bare_net net.now table.now c) ≤ length state.now }
-    ensures { result ≡ wire_fits (wire (bare_net net.now table.now c) w.0) (mid (wire_start (bare_net net.now table.now c) w.0) (wire_size (wire (bare_net net.now table.now c) w.0)) state.now) }
+fn wire_fits(plan: &Plan, w: WireId, state: &[u8]) -> bool
+    requires w_lt_wires { w.0 < plan.now.net.counts.wires }
+    requires in_bounds { state_size (network_of plan.now.net) ≤ length state.now }
+    ensures { result ≡ wire_fits (wire (network_of plan.now.net) w.0) (mid (wire_start (network_of plan.now.net) w.0) (wire_size (wire (network_of plan.now.net) w.0)) state.now) }
 {
-    let span = places::wire_span(net, table, c, starts, w);
-    let start = span.start;
-    let end = span.end;
-    let t = lookup::wire_type(net, table, c, w);
-    let most = lookup::capacity(net, table, c, w);
-    tokens::wire_fits(t, most, &state[start..end])
+    let span = plan.wire_span(w);
+    let t = plan.net.wire_type(w);
+    let most = plan.net.capacity(w);
+    tokens::wire_fits(t, most, &state[span.start..span.end])
 }
 
 // The bytes of all wires.
-fn wires_fit(net: &[u8], table: &[u16], c: Counts, starts: &[u16], state: &[u8]) -> bool
-    requires tabled { Tabled net.now table.now c }
-    requires placed { Placed (bare_net net.now table.now c) starts.now }
-    requires c_in_bounds { state_size (bare_net net.now table.now c) ≤ length state.now }
-    ensures { result ≡ wires_fit (bare_net net.now table.now c) 0 state.now }
+fn wires_fit(plan: &Plan, state: &[u8]) -> bool
+    requires { state_size (network_of plan.now.net) ≤ length state.now }
+    ensures { result ≡ wires_fit (network_of plan.now.net) 0 state.now }
 {
-    let mut w: usize = 0;
-    while w < c.wires {
-        if !wire_fits(net, table, c, starts, WireId(w as u8), state) {
+    for w in 0..plan.net.counts.wires {
+        if !wire_fits(plan, WireId(w as u8), state) {
             return false;
         }
-        w += 1;
     }
     true
 }
 
-// An input has taken no more tokens than the token file has for it; not asked without a token file.
-fn input_fits(tokens: &[u8], fields: &[u16], counted: bool, i: usize, part: &[u8]) -> bool
-    requires { FieldIn tokens.now fields.now counted i }
-    ensures { result ≡ (not counted || leb (two_at part.now 0) (length (tokens_in (body_at tokens.now (get_or fields.now i 0))))) }
-{
-    if !counted {
-        return true;
+// What a state is checked against: the network, or the network with a token file, and then no input may have taken more tokens than the file has for it.
+#[derive(Clone, Copy)]
+pub enum Basis<'a> {
+    Network(Plan<'a>),
+    Files(Feed<'a>),
+}
+
+impl<'a> Basis<'a> {
+    // The network with the places of a state's parts.
+    pub fn plan(&self) -> &Plan<'a>
+        ensures { result.now ≡ plan_of self.now }
+    {
+        match self {
+            Basis::Network(plan) => plan,
+            Basis::Files(feed) => &feed.site.plan,
+        }
     }
-    let taken = octets::two_at(part, 0);
-    let most = token_file::input_count(tokens, fields, i);
-    taken <= most
+}
+
+// An input has taken no more tokens than the token file has for it; not asked without a token file.
+fn input_fits(basis: &Basis, i: usize, part: &[u8]) -> bool
+    requires { i < (plan_of basis.now).net.counts.inputs }
+    ensures { result ≡ input_fits basis.now i part.now }
+{
+    match basis {
+        Basis::Network(_) => true,
+        Basis::Files(feed) => octets::two_at(part, 0) <= feed.input_count(i),
+    }
 }
 
 // The bytes of output k hold tokens of its wire within its room.
-fn output_fits(net: &[u8], table: &[u16], c: Counts, k: ProcessId, part: &[u8]) -> bool
-    requires tabled { Tabled net.now table.now c }
-    requires inputs_bound { c.boxes + c.inputs ≤ k.0 }
-    requires k_bound { k.0 < c.boxes + c.inputs + c.outputs }
-    requires part_len { length part.now ≡ 2 + 5 * room_at (proc (net_of net.now (index_in table.now c) []) k.0) }
-    ensures { result ≡ room_fits (wire (net_of net.now (index_in table.now c) []) (wire_at (proc (net_of net.now (index_in table.now c) []) k.0))).ty (room_at (proc (net_of net.now (index_in table.now c) []) k.0)) (two_at part.now 0) (drop 2 part.now) }
+fn output_fits(net: &Net, k: ProcessId, part: &[u8]) -> bool
+    requires inputs_bound { net.now.counts.boxes + net.now.counts.inputs ≤ k.0 }
+    requires k_bound { k.0 < net.now.counts.boxes + net.now.counts.inputs + net.now.counts.outputs }
+    requires part_len { length part.now ≡ 2 + 5 * room_at (proc (network_of net.now) k.0) }
+    ensures { result ≡ room_fits (wire (network_of net.now) (wire_at (proc (network_of net.now) k.0))).ty (room_at (proc (network_of net.now) k.0)) (two_at part.now 0) (drop 2 part.now) }
 {
-    let w = lookup::output_wire(net, table, c, k);
-    let t = lookup::wire_type(net, table, c, w);
-    let room = lookup::room(net, table, c, k);
+    let t = net.wire_type(net.output_wire(k));
+    let room = net.room(k);
     tokens::output_fits(t, room, part)
 }
 
 // The bytes of process k hold what is its own.
-fn own_part_fits(
-    net: &[u8],
-    table: &[u16],
-    c: Counts,
-    tokens: &[u8],
-    fields: &[u16],
-    counted: bool,
-    k: ProcessId,
-    part: &[u8],
-) -> bool
-    requires tabled { Tabled net.now table.now c }
-    requires known { Known net.now table.now tokens.now fields.now c counted }
-    requires k_bound { k.0 < c.boxes + c.inputs + c.outputs }
-    requires part_len { length part.now ≡ own_size (proc (bare_net net.now table.now c) k.0) }
-    ensures { result ≡ own_fits (net_in net.now table.now c tokens.now) counted (proc (net_in net.now table.now c tokens.now) k.0) part.now }
+fn own_part_fits(basis: &Basis, k: ProcessId, part: &[u8]) -> bool
+    requires k_bound { k.0 < (plan_of basis.now).net.counts.boxes + (plan_of basis.now).net.counts.inputs + (plan_of basis.now).net.counts.outputs }
+    requires part_len { length part.now ≡ own_size (proc (network_of (plan_of basis.now).net) k.0) }
+    ensures { result ≡ own_fits (network_for basis.now) (counted basis.now) (proc (network_for basis.now) k.0) part.now }
 {
-    let j = octets::wide(k.0);
-    if j < c.boxes {
-        let body = lookup::box_body(net, table, c, k);
-        return tokens::values_fit(body, part);
+    let net = &basis.plan().net;
+    let j = usize::from(k.0);
+    if j < net.counts.boxes {
+        return tokens::values_fit(net.box_body(k), part);
     }
-    let i = j - c.boxes;
-    if i < c.inputs {
-        return input_fits(tokens, fields, counted, i, part);
+    let i = j - net.counts.boxes;
+    if i < net.counts.inputs {
+        return input_fits(basis, i, part);
     }
-    output_fits(net, table, c, k, part)
+    output_fits(net, k, part)
 }
 
 // Process k, in its place.
-fn own_fits(
-    net: &[u8],
-    table: &[u16],
-    c: Counts,
-    starts: &[u16],
-    tokens: &[u8],
-    fields: &[u16],
-    counted: bool,
-    k: ProcessId,
-    state: &[u8],
-) -> bool
-    requires tabled { Tabled net.now table.now c }
-    requires placed { Placed (bare_net net.now table.now c) starts.now }
-    requires known { Known net.now table.now tokens.now fields.now c counted }
-    requires k_bound { k.0 < c.boxes + c.inputs + c.outputs }
-    requires c_in_bounds { state_size (bare_net net.now table.now c) ≤ length state.now }
-    ensures { result ≡ own_fits (net_in net.now table.now c tokens.now) counted (proc (net_in net.now table.now c tokens.now) k.0) (mid (own_start (net_in net.now table.now c tokens.now) k.0) (own_size (proc (net_in net.now table.now c tokens.now) k.0)) state.now) }
+fn own_fits(basis: &Basis, k: ProcessId, state: &[u8]) -> bool
+    requires k_bound { k.0 < (plan_of basis.now).net.counts.boxes + (plan_of basis.now).net.counts.inputs + (plan_of basis.now).net.counts.outputs }
+    requires in_bounds { state_size (network_of (plan_of basis.now).net) ≤ length state.now }
+    ensures { result ≡ own_fits (network_for basis.now) (counted basis.now) (proc (network_for basis.now) k.0) (mid (own_start (network_for basis.now) k.0) (own_size (proc (network_for basis.now) k.0)) state.now) }
 {
-    let span = places::own_span(net, table, c, starts, k);
-    let start = span.start;
-    let end = span.end;
-    own_part_fits(
-        net,
-        table,
-        c,
-        tokens,
-        fields,
-        counted,
-        k,
-        &state[start..end],
-    )
+    let span = basis.plan().own_span(k);
+    own_part_fits(basis, k, &state[span.start..span.end])
 }
 
 // The bytes of all processes.
-fn owns_fit(
-    net: &[u8],
-    table: &[u16],
-    c: Counts,
-    starts: &[u16],
-    tokens: &[u8],
-    fields: &[u16],
-    counted: bool,
-    state: &[u8],
-) -> bool
-    requires tabled { Tabled net.now table.now c }
-    requires placed { Placed (bare_net net.now table.now c) starts.now }
-    requires known { Known net.now table.now tokens.now fields.now c counted }
-    requires c_in_bounds { state_size (bare_net net.now table.now c) ≤ length state.now }
-    ensures { result ≡ owns_fit (net_in net.now table.now c tokens.now) counted 0 state.now }
+fn owns_fit(basis: &Basis, state: &[u8]) -> bool
+    requires { state_size (network_of (plan_of basis.now).net) ≤ length state.now }
+    ensures { result ≡ owns_fit (network_for basis.now) (counted basis.now) 0 state.now }
 {
-    let total = c.boxes + c.inputs + c.outputs;
-    let mut k: usize = 0;
-    while k < total {
-        if !own_fits(
-            net,
-            table,
-            c,
-            starts,
-            tokens,
-            fields,
-            counted,
-            ProcessId(k as u8),
-            state,
-        ) {
+    let c = basis.plan().net.counts;
+    for k in 0..c.boxes + c.inputs + c.outputs {
+        if !own_fits(basis, ProcessId(k as u8), state) {
             return false;
         }
-        k += 1;
     }
     true
 }
 
-// A saved state: every wire and every process holds what it may; taken counts are looked at where they are counted.
-pub fn state_fits(
-    net: &[u8],
-    table: &[u16],
-    c: Counts,
-    starts: &[u16],
-    tokens: &[u8],
-    fields: &[u16],
-    counted: bool,
-    state: &[u8],
-) -> bool
-    requires tabled { Tabled net.now table.now c }
-    requires placed { Placed (bare_net net.now table.now c) starts.now }
-    requires known { Known net.now table.now tokens.now fields.now c counted }
-    requires c_in_bounds { state_size (bare_net net.now table.now c) ≤ length state.now }
-    ensures { result ≡ state_fits (net_in net.now table.now c tokens.now) counted state.now }
+// A saved state: every wire and every process holds what it may; taken counts are looked at where there is a token file.
+pub fn state_fits(basis: &Basis, state: &[u8]) -> bool
+    requires { state_size (network_of (plan_of basis.now).net) ≤ length state.now }
+    ensures { result ≡ state_fits (network_for basis.now) (counted basis.now) state.now }
 {
-    if !wires_fit(net, table, c, starts, state) {
-        return false;
-    }
-    owns_fit(net, table, c, starts, tokens, fields, counted, state)
+    wires_fit(basis.plan(), state) && owns_fit(basis, state)
 }

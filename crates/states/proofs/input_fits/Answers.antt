@@ -1,12 +1,11 @@
-use Rattle.states.proofs.Fits.{input_said}
+use mathlib.Core.Path.{refl}
+use Rattle.states.specs.Saved.{input_fits}
+use Rattle.states.proofs.Bases.{input_said}
 use Rattle.states.proofs.input_fits.Goals as goal
 
-pub input_count-most-requires : goal.input_count-most-requires
-input_count-most-requires c =
-    let start = c in
-    start.requires.inside c.if-not-counted.false
+pub returns-in-Network : goal.returns-in-Network
+unfolding input_fits
+returns-in-Network c = rw c.in-Network.is refl
 
-pub returns : goal.returns
-returns c =
-    let start = c in
-    input_said start.args.counted _ _ _ _ c.if-not-counted.false c.two_at-taken.ensures.0 c.input_count-most.ensures
+pub returns-in-Files : goal.returns-in-Files
+returns-in-Files c = input_said _ _ _ _ _ _ c.in-Files.is (rw c.in-Files.is at c.requires) c.two_at.ensures.0 c.input_count.ensures
