@@ -29,10 +29,9 @@ use Rattle.lookup.proofs.Tabled.{n_boxes, n_inputs, n_outputs, output_is, output
 use Rattle.tokens.specs.Parts.{field_bytes}
 use Rattle.tokens.proofs.Lifts.{output_needs, field_in, fits_output, length_field}
 use Rattle.tokens.proofs.Turns.{start_turn, start_all, boxes_of, inputs_of, outputs_of, file_of, file_net}
-use Rattle.states.specs.Saved.{wires_fit, owns_fit}
+use Rattle.states.specs.Saved.{Holds, wires_fit, owns_fit}
 use Rattle.states.proofs.Fits.{owns_turn, state_is}
-use Rattle.places.specs.Standing.{bare_net}
-use Rattle.output_file.specs.Files.{field_on, file_from, Saved, IsOutput}
+use Rattle.output_file.specs.Files.{field_on, file_from, IsOutput}
 
 -- ── one field more ───────────────────────────────────────────────────────────────────────────
 
@@ -79,7 +78,7 @@ pub record OutputPart (n : Net) (st : List ℕ) (k : ℕ) (part : List ℕ) : Ty
   pub field : field_bytes part ≡ field_on n st k
   pub sized : 3 + 5 * two_at part 0 ≡ length (field_on n st k)
 
-module _ (s t p st : List ℕ) (c : Counts) (h : Saved s t p st c) (o : Octets st) (k : ℕ) (q : IsOutput c k) where
+module _ (s t st : List ℕ) (c : Counts) (h : Tabled s t c) (g : Holds (net_of s (index_in t c) []) false st) (o : Octets st) (k : ℕ) (q : IsOutput c k) where
   abbrev x : Index
   x = index_in t c
 
@@ -90,7 +89,7 @@ module _ (s t p st : List ℕ) (c : Counts) (h : Saved s t p st c) (o : Octets s
   part = mid (own_start n k) (own_size (proc n k)) st
 
   pub in-procs : k < length n.procs
-  in-procs = omega (arith, procs_length s x [], n_boxes s t c h.tabled, n_inputs s t c h.tabled, n_outputs s t c h.tabled, q.most)
+  in-procs = omega (arith, procs_length s x [], n_boxes s t c h, n_inputs s t c h, n_outputs s t c h, q.most)
 
   abbrev w : ℕ
   w = wire_at (proc n k)
@@ -99,18 +98,18 @@ module _ (s t p st : List ℕ) (c : Counts) (h : Saved s t p st c) (o : Octets s
   room = room_at (proc n k)
 
   is_output_lem : proc n k ≡ output w room
-  is_output_lem = output_is s t c h.tabled k q.least q.most []
+  is_output_lem = output_is s t c h k q.least q.most []
 
   pub output_at_lem : OutputPart n st k part
-  unfolding field_on own_size bare_net
+  unfolding field_on own_size
   output_at_lem =
       let b : Octets part = octets-take (own_size (proc n k)) (drop (own_start n k) st) (octets-drop (own_start n k) st o) in
       let size : own_size (proc n k) ≡ 2 + 5 * room = ap own_size is_output_lem in
       let e : length (drop (own_start n k) st) ≡ length st - own_start n k = length-drop (own_start n k) st in
-      let long : length part ≡ 2 + 5 * room = length-take-le (own_size (proc n k)) (drop (own_start n k) st) (omega (arith, e, own_in_lem n k in-procs, h.long)) ∙ size in
+      let long : length part ≡ 2 + 5 * room = length-take-le (own_size (proc n k)) (drop (own_start n k) st) (omega (arith, e, own_in_lem n k in-procs, g.long)) ∙ size in
       let fits : room_fits (wire n w).ty room (two_at part 0) (drop 2 part) ≡ true =
-      sym (fits_output n false w room part) ∙ ap (λ (v : Proc). own_fits n false v part) (sym is_output_lem) ∙ own_true n st false h.fits k in-procs in
-      let few = output_needs (wire n w).ty room part b (output_good s t c h.tabled k q.least q.most).2 long fits in
+      sym (fits_output n false w room part) ∙ ap (λ (v : Proc). own_fits n false v part) (sym is_output_lem) ∙ own_true n st false g.fits k in-procs in
+      let few = output_needs (wire n w).ty room part b (output_good s t c h k q.least q.most).2 long fits in
       let field : field_bytes part ≡ output_field (proc n k) (own_in (proc n k) part) = field_in w room part b few.1 ∙ ap (λ (v : Proc). output_field v (own_in v part)) (sym is_output_lem) in
       record {
         few = few.0;
@@ -121,14 +120,14 @@ module _ (s t p st : List ℕ) (c : Counts) (h : Saved s t p st c) (o : Octets s
 
   -- the same of a part told otherwise: what field_out asks, and what it writes
   pub part_needs : (part' out : List ℕ) → part' ≡ part → length (field_on n st k) ≤ length out → (two_at part' 0 ≤ 1000) × ((2 + 5 * two_at part' 0 ≤ length part') × (3 + 5 * two_at part' 0 ≤ length out))
-  part_needs part' out e l = let g = output_at_lem in rw e (g.few, (g.whole, omega (arith, g.sized, l)))
+  part_needs part' out e l = let y = output_at_lem in rw e (y.few, (y.whole, omega (arith, y.sized, l)))
 
   pub part_writes : (part' out last : List ℕ) (r : ℕ) → part' ≡ part → r ≡ 3 + 5 * two_at part' 0 → last ≡ field_bytes part' ++ drop (3 + 5 * two_at part' 0) out →
       (r ≡ length (field_on n st k)) × (last ≡ field_on n st k ++ drop (length (field_on n st k)) out)
-  part_writes part' out last r e f g =
+  part_writes part' out last r e f d =
       let y = output_at_lem in
       let size : 3 + 5 * two_at part' 0 ≡ length (field_on n st k) = ap (λ (l : List ℕ). 3 + 5 * two_at l 0) e ∙ y.sized in
-      (f ∙ size, g ∙ ap₂ (λ (u : List ℕ) (j : ℕ). u ++ drop j out) (ap field_bytes e ∙ y.field) size)
+      (f ∙ size, d ∙ ap₂ (λ (u : List ℕ) (j : ℕ). u ++ drop j out) (ap field_bytes e ∙ y.field) size)
 
   -- the part at a span, and the count that stands first in it
   pub part_at : (a b : ℕ) → a ≡ own_start n k → b ≡ a + own_size (proc n k) → mid a (b - a) st ≡ part
@@ -148,7 +147,7 @@ procs_total : (s t : List ℕ) (c : Counts) → Tabled s t c → length (net_of 
 procs_total s t c h = procs_length s (index_in t c) [] ∙ omega (arith, n_boxes s t c h, n_inputs s t c h, n_outputs s t c h)
 
 -- the fields of the outputs are all of it
-file_all : (s t st : List ℕ) (c : Counts) → Tabled s t c → output_file (net_of s (index_in t c) []) (state_in (net_of s (index_in t c) []) st) ≡ file_from (net_of s (index_in t c) []) st (c.boxes + c.inputs)
+pub file_all : (s t st : List ℕ) (c : Counts) → Tabled s t c → output_file (net_of s (index_in t c) []) (state_in (net_of s (index_in t c) []) st) ≡ file_from (net_of s (index_in t c) []) st (c.boxes + c.inputs)
 unfolding file_from own_start net_of
 file_all s t st c h =
     let y : Index = index_in t c in
@@ -160,22 +159,18 @@ file_all s t st c h =
     ∙ start_all (map own_size front) k (omega (arith, length-map front own_size, long)) in
     file_net s y [] st ∙ sym (ap₂ (λ (ps : List Proc) (m : ℕ). file_of ps (drop (wires_size (net_of s y []) + m) st)) (drop_at front (outputs_of s y) k long) start)
 
--- the same, told of the network without tokens
 module _ (s t st : List ℕ) (c : Counts) (h : Tabled s t c) where
-  pub is_process : (k : ℕ) → k < c.boxes + c.inputs + c.outputs → k < length (bare_net s t c).procs
-  unfolding bare_net
+  abbrev whole : Net
+  whole = net_of s (index_in t c) []
+
+  pub is_process : (k : ℕ) → k < c.boxes + c.inputs + c.outputs → k < length whole.procs
   is_process k l = omega (arith, procs_total s t c h, l)
 
-  pub no_process : (k : ℕ) → c.boxes + c.inputs + c.outputs ≤ k → length (bare_net s t c).procs ≤ k
-  unfolding bare_net
+  pub no_process : (k : ℕ) → c.boxes + c.inputs + c.outputs ≤ k → length whole.procs ≤ k
   no_process k l = omega (arith, procs_total s t c h, l)
 
-  pub bare_file : output_file (bare_net s t c) (state_in (bare_net s t c) st) ≡ file_from (bare_net s t c) st (c.boxes + c.inputs)
-  unfolding bare_net
-  bare_file = file_all s t st c h
-
-  pub room_for : (out : List ℕ) → length (output_file (bare_net s t c) (state_in (bare_net s t c) st)) ≤ length out → length (file_from (bare_net s t c) st (c.boxes + c.inputs)) ≤ length out
-  room_for out l = omega (arith, l, ap (λ (x : List ℕ). length x) bare_file)
+  pub room_for : (out : List ℕ) → length (output_file whole (state_in whole st)) ≤ length out → length (file_from whole st (c.boxes + c.inputs)) ≤ length out
+  room_for out l = omega (arith, l, ap (λ (x : List ℕ). length x) (file_all s t st c h))
 
 -- ── the file, written ────────────────────────────────────────────────────────────────────────
 
@@ -206,14 +201,14 @@ module _ (n : Net) (st : List ℕ) (first : ℕ) (out₀ out : List ℕ) (at k :
   written-room l m = omega (arith, field_in_file l, m)
 
   -- the field of process k behind those before it
-  pub written_next : (r : ℕ) (last : List ℕ) → k < length n.procs → length file ≤ length out₀ → r ≡ length f → last ≡ f ++ drop (length f) (mid at (length out₀ - at) out) →
-      Written n st first out₀ (put_mid at (length out₀ - at) out last) (at + r) (k + 1)
+  pub written_next : (r : ℕ) (last : List ℕ) → k < length n.procs → length file ≤ length out₀ → r ≡ length f → last ≡ f ++ drop (length f) (mid at (length out - at) out) →
+      Written n st first out₀ (put_mid at (length out - at) out last) (at + r) (k + 1)
   written_next r last l m g q =
-      let z : ℕ = length out₀ - at in
+      let z : ℕ = length out - at in
       let long : length (take at file) ≡ at = length-take-le at file w.few in
       let back : drop at out ≡ drop at out₀ = ap (drop at) w.front ∙ drop_at (take at file) (drop at out₀) at long in
       let start : take at out ≡ take at file = ap (take at) w.front ∙ take_at (take at file) (drop at out₀) at long in
-      let few : length (drop at out₀) ≤ z = omega (arith, length-drop at out₀) in
+      let few : length (drop at out₀) ≤ z = omega (arith, length-drop at out, ap (λ (y : List ℕ). length y) back) in
       let one : mid at z out ≡ drop at out₀ = ap (take z) back ∙ take_all z (drop at out₀) few in
       let none : drop z (drop at out) ≡ [] = ap (drop z) back ∙ drop_of_length-le (drop at out₀) few in
       let more : take (at + length f) file ≡ take at file ++ f = take-add at (length f) file ∙ ap (λ (y : List ℕ). take at file ++ y) (ap (take (length f)) (left_is l) ∙ take-append_seam f (file_from n st (k + 1))) in

@@ -1,14 +1,11 @@
 -- The output file, process by process.
 -- Assumes nothing.
-use Rattle.std.specs.Prelude.{ℕ, ◌+◌, ◌≤◌, ◌<◌, ◌≡◌, true, false, length, drop}
+use Rattle.std.specs.Prelude.{ℕ, ◌+◌, ◌≤◌, ◌<◌, drop}
 use mathlib.Core.List.{List, map, zip_with}
 use Rattle.model.specs.Network.{Net, proc}
-use Rattle.model.specs.States.{own_size, cat, split, own_in, output_field, state_size, state_fits}
+use Rattle.model.specs.States.{own_size, cat, split, own_in, output_field}
 use Rattle.table.specs.declared.Counts.{Counts}
 use Rattle.queues.specs.Segments.{mid, own_start}
-use Rattle.lookup.specs.Tabled.{Tabled}
-use Rattle.places.specs.Places.{Placed}
-use Rattle.places.specs.Standing.{bare_net}
 
 -- the field of process k: only an output has one
 unfoldable pub field_on : Net → List ℕ → ℕ → List ℕ
@@ -17,13 +14,6 @@ field_on n st k = output_field (proc n k) (own_in (proc n k) (mid (own_start n k
 -- the fields of the processes from k on
 unfoldable pub file_from : Net → List ℕ → ℕ → List ℕ
 file_from n st k = let ps = drop k n.procs in cat (zip_with output_field ps (zip_with own_in ps (split (map own_size ps) (drop (own_start n k) st))))
-
--- network file s, table t with counts c, starts p: st holds a state, taken counts not looked at
-pub record Saved (s t p st : List ℕ) (c : Counts) : Type 0 where
-  pub tabled : Tabled s t c
-  pub placed : Placed (bare_net s t c) p
-  pub long : state_size (bare_net s t c) ≤ length st
-  pub fits : state_fits (bare_net s t c) false st ≡ true
 
 -- process k is an output
 pub record IsOutput (c : Counts) (k : ℕ) : Type 0 where

@@ -1,96 +1,59 @@
 #![tactic(auto)]
 
 // The output file of a saved state: one field of tag 33 for each output, in order.
-ghost use Rattle.std.specs.Prelude.{◌≡◌, ◌++◌, ◌≤◌, length, drop};
+ghost use Rattle.std.specs.Prelude.{◌≡◌, ◌++◌, ◌≤◌, length, drop, false};
 ghost use Rattle.model.specs.States.{output_file, state_in};
-ghost use Rattle.places.specs.Standing.{bare_net};
-ghost use Rattle.output_file.specs.Files.{field_on, Saved, IsOutput};
+ghost use Rattle.lookup.specs.Views.{network_of};
+ghost use Rattle.states.specs.Saved.{Holds};
+ghost use Rattle.output_file.specs.Files.{field_on, IsOutput};
 
 use model::ProcessId;
-use table::Counts;
+use places::Plan;
 
 // How many bytes the field of output k takes.
-fn field_size(
-    net: &[u8],
-    table: &[u16],
-    c: Counts,
-    starts: &[u16],
-    k: ProcessId,
-    state: &[u8],
-) -> usize
-    requires saved { Saved net.now table.now starts.now state.now c }
-    requires output { IsOutput c k.0 }
-    ensures { (result ≡ length (field_on (bare_net net.now table.now c) state.now k.0)) × (result ≤ 5003) }
+fn field_size(plan: &Plan, k: ProcessId, state: &[u8]) -> usize
+    requires saved { Holds (network_of plan.now.net) false state.now }
+    requires output { IsOutput plan.now.net.counts k.0 }
+    ensures { (result ≡ length (field_on (network_of plan.now.net) state.now k.0)) × (result ≤ 5003) }
 {
-    let span = places::own_span(net, table, c, starts, k);
-    3 + 5 * octets::two_at(state, span.start)
+    3 + 5 * octets::two_at(state, plan.own_span(k).start)
 }
 
 // How many bytes the output file takes.
-pub fn output_size(net: &[u8], table: &[u16], c: Counts, starts: &[u16], state: &[u8]) -> usize
-    requires { Saved net.now table.now starts.now state.now c }
-    ensures { result ≡ length (output_file (bare_net net.now table.now c) (state_in (bare_net net.now table.now c) state.now)) }
+pub fn output_size(plan: &Plan, state: &[u8]) -> usize
+    requires { Holds (network_of plan.now.net) false state.now }
+    ensures { result ≡ length (output_file (network_of plan.now.net) (state_in (network_of plan.now.net) state.now)) }
 {
+    let c = plan.net.counts;
     let first = c.boxes + c.inputs;
-    let total = first + c.outputs;
     let mut size: usize = 0;
-    let mut k = first;
-    while k < total {
-        size += field_size(net, table, c, starts, ProcessId(k as u8), state);
-        k += 1;
+    for k in first..first + c.outputs {
+        size += field_size(plan, ProcessId(k as u8), state);
     }
     size
 }
 
 // The field of output k, written at the start. Answers the bytes written.
-fn write_field(
-    net: &[u8],
-    table: &[u16],
-    c: Counts,
-    starts: &[u16],
-    k: ProcessId,
-    state: &[u8],
-    out: &mut [u8],
-) -> usize
-    requires saved { Saved net.now table.now starts.now state.now c }
-    requires output { IsOutput c k.0 }
-    requires k_in_bounds { length (field_on (bare_net net.now table.now c) state.now k.0) ≤ length out.old }
-    ensures { (result ≡ length (field_on (bare_net net.now table.now c) state.now k.0)) × (out.new ≡ field_on (bare_net net.now table.now c) state.now k.0 ++ drop (length (field_on (bare_net net.now table.now c) state.now k.0)) out.old) }
+fn write_field(plan: &Plan, k: ProcessId, state: &[u8], out: &mut [u8]) -> usize
+    requires saved { Holds (network_of plan.now.net) false state.now }
+    requires output { IsOutput plan.now.net.counts k.0 }
+    requires k_in_bounds { length (field_on (network_of plan.now.net) state.now k.0) ≤ length out.old }
+    ensures { (result ≡ length (field_on (network_of plan.now.net) state.now k.0)) × (out.new ≡ field_on (network_of plan.now.net) state.now k.0 ++ drop (length (field_on (network_of plan.now.net) state.now k.0)) out.old) }
 {
-    let span = places::own_span(net, table, c, starts, k);
-    let start = span.start;
-    let end = span.end;
-    tokens::field_out(&state[start..end], out)
+    let span = plan.own_span(k);
+    tokens::field_out(&state[span.start..span.end], out)
 }
 
 // The output file, written at the buffer's start. Bytes beyond it stay.
-pub fn write_file(
-    net: &[u8],
-    table: &[u16],
-    c: Counts,
-    starts: &[u16],
-    state: &[u8],
-    out: &mut [u8],
-)
-    requires saved { Saved net.now table.now starts.now state.now c }
-    requires state_in_bounds { length (output_file (bare_net net.now table.now c) (state_in (bare_net net.now table.now c) state.now)) ≤ length out.old }
-    ensures { out.new ≡ output_file (bare_net net.now table.now c) (state_in (bare_net net.now table.now c) state.now) ++ drop (length (output_file (bare_net net.now table.now c) (state_in (bare_net net.now table.now c) state.now))) out.old }
+pub fn write_file(plan: &Plan, state: &[u8], out: &mut [u8])
+    requires saved { Holds (network_of plan.now.net) false state.now }
+    requires state_in_bounds { length (output_file (network_of plan.now.net) (state_in (network_of plan.now.net) state.now)) ≤ length out.old }
+    ensures { out.new ≡ output_file (network_of plan.now.net) (state_in (network_of plan.now.net) state.now) ++ drop (length (output_file (network_of plan.now.net) (state_in (network_of plan.now.net) state.now))) out.old }
 {
+    let c = plan.net.counts;
     let first = c.boxes + c.inputs;
-    let total = first + c.outputs;
-    let n = out.len();
     let mut at: usize = 0;
-    let mut k = first;
-    while k < total {
-        at += write_field(
-            net,
-            table,
-            c,
-            starts,
-            ProcessId(k as u8),
-            state,
-            &mut out[at..n],
-        );
-        k += 1;
+    for k in first..first + c.outputs {
+        at += write_field(plan, ProcessId(k as u8), state, &mut out[at..]);
     }
 }
