@@ -58,7 +58,7 @@ module _ {c o : ℕ} (q : c ≡ o) (z : ℤ) (tag : ℕ) (value : ℤ) where
 -- an action of a code other than 0 writes
 writes_by : (t : Bool) (c : ℕ) (x : Action) → writes x ≡ true → holds_expression c ≡ t → writes (cond t x (bare_action c)) ≡ not (eqb c 0)
 unfolding writes bare_action holds_expression
-writes_by true zero x w e = let z : ◌≡◌ {A = ℕ} 0 1 = cc in absurd (omega arith)
+writes_by true zero x w e = cc
 writes_by true (suc c) x w e = w ∙ rw (ne_eqb (suc c) 0 (λ i. omega arith))
 writes_by false zero x w e = refl
 writes_by false (suc c) x w e = rw (ne_eqb (suc c) 0 (λ i. omega arith))

@@ -69,7 +69,7 @@ sent_size tag m y e = rw e
 
 sent_read : (s : List ℕ) (r : Read Exp) (tag : ℕ) {x : Action} {n : ℕ} → expression s ≡ r → after r (λ e m. got (send tag e) (1 + m)) ≡ got x n → (x ≡ send tag (exp_read r)) × (size_of_action x ≡ n)
 unfolding after exp_read
-sent_read s bad tag q e = let z : ◌≡◌ {A = ℕ} 0 1 = cc in absurd (omega arith)
+sent_read s bad tag q e = cc
 sent_read s (got y m) tag {x} {n} q e =
     let w : x ≡ send tag y = cc in
     let v : 1 + m ≡ n = cc in
@@ -94,7 +94,7 @@ read_by false s {x} {n} q e =
 given : (t : Bool) (r : Read Action) {x : Action} {n : ℕ} → provided t r ≡ got x n → r ≡ got x n
 unfolding provided
 given true r e = e
-given false r e = let z : ◌≡◌ {A = ℕ} 0 1 = cc in absurd (omega arith)
+given false r e = cc
 
 pub action_read : (known : ℕ → Bool) (s : List ℕ) {x : Action} {n : ℕ} → read_action known s ≡ got x n → (x ≡ action_at s) × (size_of_action x ≡ n)
 unfolding read_action
@@ -105,7 +105,7 @@ action_inside v b at end e = go (ltb at (length b)) refl
   where
     go : (t : Bool) → ltb at (length b) ≡ t → at < length b
     go true q = ltb-true at (length b) q
-    go false q = let w : None ≡ Some end = action_none (action_codes v) b at (ltb-false at (length b) q) ∙ e in let z : ◌≡◌ {A = ℕ} 0 1 = cc in absurd (omega arith)
+    go false q = let w : None ≡ Some end = action_none (action_codes v) b at (ltb-false at (length b) q) ∙ e in cc
 
 -- ── one after another ────────────────────────────────────────────────────────────────────────
 
@@ -119,7 +119,7 @@ variable_output : (c : ℕ) → action_codes true c ≡ true → action_codes fa
 unfolding action_codes variable_action output_action
 variable_output zero e = refl
 variable_output (suc zero) e = refl
-variable_output (suc (suc c)) e = let u : false ≡ true = rw (lt-leb (suc (suc c)) 1 (omega arith)) at e in let z : ◌≡◌ {A = ℕ} 0 1 = cc in absurd (omega arith)
+variable_output (suc (suc c)) e = let u : false ≡ true = rw (lt-leb (suc (suc c)) 1 (omega arith)) at e in cc
 
 action_wider : (s : List ℕ) → is_read (read_action (action_codes true) s) ≡ true → read_action (action_codes false) s ≡ read_action (action_codes true) s
 unfolding read_action
@@ -152,7 +152,7 @@ module _ (v : Bool) (b : List ℕ) where
     first_go : (t : Bool) → keeps_read (read_action (action_codes v) (drop at b)) ≡ t → (sent_limits (drop at b) ≡ true) × (limits_of (actions_from v (k - 1) end b) ≡ true)
     unfolding actions_from
     first_go true e = (sym (keeps_is (action_codes v) (drop at b) at end g) ∙ e, sym (limits_step (read_action (action_codes v)) b k at end h g e) ∙ l)
-    first_go false e = let z : false ≡ true = sym (limits_fail (read_action (action_codes v)) b k at h e) ∙ l in let w : ◌≡◌ {A = ℕ} 0 1 = cc in absurd (omega arith)
+    first_go false e = let z : false ≡ true = sym (limits_fail (read_action (action_codes v)) b k at h e) ∙ l in cc
 
     pub first_limits : (sent_limits (drop at b) ≡ true) × (limits_of (actions_from v (k - 1) end b) ≡ true)
     first_limits = first_go (keeps_read (read_action (action_codes v) (drop at b))) refl
@@ -187,7 +187,7 @@ module _ (v : Bool) (b : List ℕ) where
 
       fail_go : (f : Fit) (j : ℕ) → Err j ≡ fitting_of f → (y : Fit) → Err j ≡ fitting_of (also f y)
       unfolding fitting_of also
-      fail_go fits j e y = let z : ◌≡◌ {A = ℕ} 0 1 = cc in absurd (omega arith)
+      fail_go fits j e y = cc
       fail_go (fails i) j e y = e
 
       pub acts_fail : (j : ℕ) {w : Fit} → Err j ≡ fitting_of (action_fits sc at t (action_at (drop at b))) → left_acts k at ≡ w → Err j ≡ fitting_of w
@@ -196,7 +196,7 @@ module _ (v : Bool) (b : List ℕ) where
       more_go : (f : Fit) → Ok tt ≡ fitting_of f → (y : Fit) → also f y ≡ y
       unfolding fitting_of also
       more_go fits e y = refl
-      more_go (fails i) e y = let z : ◌≡◌ {A = ℕ} 0 1 = cc in absurd (omega arith)
+      more_go (fails i) e y = cc
 
       pub acts_more : {w : Fit} → Ok tt ≡ fitting_of (action_fits sc at t (action_at (drop at b))) → left_acts k at ≡ w → left_acts (k + 1) end ≡ w
       acts_more e i = sym (more_go (action_fits sc at t (action_at (drop at b))) e (left_acts (k + 1) end)) ∙ sym acts_one ∙ i

@@ -4,7 +4,6 @@ use mathlib.Core.Path.{◌≡◌, refl, sym, ap, ◌∙◌}
 use mathlib.Core.Bool.{true, false}
 use mathlib.Core.List.{List}
 use Prim.Native.Nat.{ℕ, ◌*◌}
-use native.Mathlib.Omega.{arith}
 use lib.Dec.{leb, ltb}
 use lib.ListN.{drop, length}
 use Rattle.model.specs.Expressions.{expression, type_at}
@@ -35,7 +34,8 @@ refused_where y fits = Ok tt
 refused_where y (fails k) = refused y k
 
 -- what `map_err` makes of such an answer, by a closure that puts the reason beside the offset
-pub where_is : (y : Reason) (f : Fit) (q : Result ⊤ ℕ) (r : Result ⊤ RuleFault) (Q : ℕ → RuleFault → Type 0) → q ≡ fitting_of f → ((k : ℕ) (x : RuleFault) → Q k x → x ≡ record { reason = y; at = k })
+pub where_is : (y : Reason) (f : Fit) (q : Result ⊤ ℕ) (r : Result ⊤ RuleFault) (Q : ℕ → RuleFault → Type 0) → q ≡ fitting_of f
+    → ((k : ℕ) (x : RuleFault) → Q k x → x ≡ record { reason = y; at = k })
     → MatchResult q (λ x. r ≡ Ok x) (λ k. IsErrAnd r (Q k)) → r ≡ refused_where y f
 unfolding refused_where fitting_of
 where_is y f q r Q e g h = go f (rw e at h)
@@ -48,7 +48,7 @@ where_is y f q r Q e g h = go f (rw e at h)
 pub where_none : (y : Reason) (f : Fit) → refused_where y f ≡ Ok tt → f ≡ fits
 unfolding refused_where
 where_none y fits e = refl
-where_none y (fails k) e = let z : ◌≡◌ {A = ℕ} 0 1 = cc in absurd (omega arith)
+where_none y (fails k) e = cc
 
 -- ── the ways out ─────────────────────────────────────────────────────────────────────────────
 
@@ -74,7 +74,7 @@ module _ (ins outs vars b : List ℕ) (a : Arity) (seen : ℕ) where
 
     first_limits : (f g : Fit) (x : RuleFault) → refused_where reason.Limits f ≡ Err x → first_of fits f g ≡ Err x
     unfolding first_of refused_where
-    first_limits fits g x e = let z : ◌≡◌ {A = ℕ} 0 1 = cc in absurd (omega arith)
+    first_limits fits g x e = cc
     first_limits (fails k) g x e = e
 
     pub fault_limits : (x : RuleFault) → refused_where reason.Limits Limits ≡ Err x → Err x ≡ rule_fault (shape_in ins outs vars a) seen b

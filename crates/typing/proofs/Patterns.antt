@@ -47,23 +47,23 @@ pattern_high c z h = rw (ne_eqb c 0 (λ i. omega arith), ne_eqb c 1 (λ i. omega
 -- one with a constant, and one without
 pub constant_is : (c : ℕ) (z : ℤ) → (eqb c 2 || leb 6 c) ≡ true → pattern_of c z ≡ only (tag_of c) z
 unfolding pattern_of tag_of
-constant_is zero z e = let w : ◌≡◌ {A = ℕ} 0 1 = cc in absurd (omega arith)
-constant_is (suc zero) z e = let w : ◌≡◌ {A = ℕ} 0 1 = cc in absurd (omega arith)
+constant_is zero z e = cc
+constant_is (suc zero) z e = cc
 constant_is (suc (suc zero)) z e = refl
-constant_is (suc (suc (suc zero))) z e = let w : ◌≡◌ {A = ℕ} 0 1 = cc in absurd (omega arith)
-constant_is (suc (suc (suc (suc zero)))) z e = let w : ◌≡◌ {A = ℕ} 0 1 = cc in absurd (omega arith)
-constant_is (suc (suc (suc (suc (suc zero))))) z e = let w : ◌≡◌ {A = ℕ} 0 1 = cc in absurd (omega arith)
+constant_is (suc (suc (suc zero))) z e = cc
+constant_is (suc (suc (suc (suc zero)))) z e = cc
+constant_is (suc (suc (suc (suc (suc zero))))) z e = cc
 constant_is (suc (suc (suc (suc (suc (suc c)))))) z e = let l : 6 ≤ suc (suc (suc (suc (suc (suc c))))) = omega arith in pattern_high (suc (suc (suc (suc (suc (suc c)))))) z l ∙ ap (λ (k : ℕ). only k z) (tag_data (suc (suc (suc (suc (suc (suc c)))))) l)
 
 pub any_is : (c : ℕ) (z : ℤ) → (eqb c 2 || leb 6 c) ≡ false → (c ≡ 0 → ⊥) → pattern_of c z ≡ any (tag_of c)
 unfolding pattern_of tag_of
 any_is zero z e n = absurd (n refl)
 any_is (suc zero) z e n = refl
-any_is (suc (suc zero)) z e n = let w : ◌≡◌ {A = ℕ} 0 1 = cc in absurd (omega arith)
+any_is (suc (suc zero)) z e n = cc
 any_is (suc (suc (suc zero))) z e n = refl
 any_is (suc (suc (suc (suc zero)))) z e n = refl
 any_is (suc (suc (suc (suc (suc zero))))) z e n = refl
-any_is (suc (suc (suc (suc (suc (suc c)))))) z e n = let u : true ≡ false = rw (ne_eqb (suc (suc (suc (suc (suc (suc c)))))) 2 (λ i. omega arith), le-leb 6 (suc (suc (suc (suc (suc (suc c)))))) (omega arith)) at e in let w : ◌≡◌ {A = ℕ} 0 1 = cc in absurd (omega arith)
+any_is (suc (suc (suc (suc (suc (suc c)))))) z e n = let u : true ≡ false = rw (ne_eqb (suc (suc (suc (suc (suc (suc c)))))) 2 (λ i. omega arith), le-leb 6 (suc (suc (suc (suc (suc (suc c)))))) (omega arith)) at e in cc
 
 fits_by : (b : Bool) (t : Ty) (c : ℕ) (z : ℤ) → (eqb c 2 || leb 6 c) ≡ b → (c ≡ 0 → ⊥) → pattern_fits t (pattern_of c z) ≡ (tag_fits t (tag_of c) && cond b (within (carried t) z) true)
 unfolding pattern_fits
@@ -103,7 +103,7 @@ pub record IsPattern (known : ℕ → Bool) (s : List ℕ) (x : Pattern) (n : �
 read_go : (t : Bool) (y x : Pattern) (m n : ℕ) → provided t (got y m) ≡ got x n → (t ≡ true) × ((x ≡ y) × (n ≡ m))
 unfolding provided
 read_go true y x m n e = (refl, (cc, cc))
-read_go false y x m n e = let z : ◌≡◌ {A = ℕ} 0 1 = cc in absurd (omega arith)
+read_go false y x m n e = cc
 
 pub pattern_read : (known : ℕ → Bool) (s : List ℕ) {x : Pattern} {n : ℕ} → read_pattern known s ≡ got x n → IsPattern known s x n
 unfolding read_pattern
@@ -122,8 +122,8 @@ size_known v (suc (suc (suc zero))) z e = refl
 size_known v (suc (suc (suc (suc zero)))) z e = refl
 size_known v (suc (suc (suc (suc (suc zero))))) z e = refl
 size_known v (suc (suc (suc (suc (suc (suc zero)))))) z e = refl
-size_known true (suc (suc (suc (suc (suc (suc (suc c))))))) z e = let u : false ≡ true = rw (ne_eqb (suc (suc (suc (suc (suc (suc (suc c))))))) 0 (λ i. omega arith), ne_eqb (suc (suc (suc (suc (suc (suc (suc c))))))) 2 (λ i. omega arith)) at e in let w : ◌≡◌ {A = ℕ} 0 1 = cc in absurd (omega arith)
-size_known false (suc (suc (suc (suc (suc (suc (suc c))))))) z e = let u : false ≡ true = rw (lt-leb (suc (suc (suc (suc (suc (suc (suc c))))))) 6 (omega arith)) at e in let w : ◌≡◌ {A = ℕ} 0 1 = cc in absurd (omega arith)
+size_known true (suc (suc (suc (suc (suc (suc (suc c))))))) z e = let u : false ≡ true = rw (ne_eqb (suc (suc (suc (suc (suc (suc (suc c))))))) 0 (λ i. omega arith), ne_eqb (suc (suc (suc (suc (suc (suc (suc c))))))) 2 (λ i. omega arith)) at e in cc
+size_known false (suc (suc (suc (suc (suc (suc (suc c))))))) z e = let u : false ≡ true = rw (lt-leb (suc (suc (suc (suc (suc (suc (suc c))))))) 6 (omega arith)) at e in cc
 
 pub pattern_size_lem : (v : Bool) (s : List ℕ) {x : Pattern} {n : ℕ} → read_pattern (pattern_codes v) s ≡ got x n → size_of_pattern x ≡ n
 pattern_size_lem v s e =
@@ -135,7 +135,7 @@ pattern_inside v b at end e = go (ltb at (length b)) refl
   where
     go : (t : Bool) → ltb at (length b) ≡ t → at < length b
     go true q = ltb-true at (length b) q
-    go false q = let w : None ≡ Some end = pattern_none (pattern_codes v) b at (ltb-false at (length b) q) ∙ e in let z : ◌≡◌ {A = ℕ} 0 1 = cc in absurd (omega arith)
+    go false q = let w : None ≡ Some end = pattern_none (pattern_codes v) b at (ltb-false at (length b) q) ∙ e in cc
 
 -- what can be a variable's can be an input's
 variable_input : (c : ℕ) → pattern_codes true c ≡ true → pattern_codes false c ≡ true
@@ -143,7 +143,7 @@ unfolding pattern_codes variable_code input_code
 variable_input zero e = refl
 variable_input (suc zero) e = refl
 variable_input (suc (suc zero)) e = refl
-variable_input (suc (suc (suc c))) e = let u : false ≡ true = rw (ne_eqb (suc (suc (suc c))) 0 (λ i. omega arith), ne_eqb (suc (suc (suc c))) 2 (λ i. omega arith)) at e in let z : ◌≡◌ {A = ℕ} 0 1 = cc in absurd (omega arith)
+variable_input (suc (suc (suc c))) e = let u : false ≡ true = rw (ne_eqb (suc (suc (suc c))) 0 (λ i. omega arith), ne_eqb (suc (suc (suc c))) 2 (λ i. omega arith)) at e in cc
 
 pattern_wider : (s : List ℕ) → is_read (read_pattern (pattern_codes true) s) ≡ true → read_pattern (pattern_codes false) s ≡ read_pattern (pattern_codes true) s
 unfolding read_pattern
@@ -335,9 +335,13 @@ module _ (ts : List ℕ) (at : ℕ) (t : Ty) (h : at + 1 < length ts) where
   byte_apart : (i : ℕ) → (i ≡ at → ⊥) → (i ≡ at + 1 → ⊥) → get_or (put_type ts at t) i 0 ≡ get_or ts i 0
   byte_apart i n m = get_or-set_other (set ts at t.kind) (at + 1) i t.p 0 m ∙ get_or-set_other ts at i t.kind 0 n
 
-  pub type_apart : (i : ℕ) → (i ≡ at → ⊥) → (i + 1 ≡ at → ⊥) → (i ≡ at + 1 → ⊥) → type_at (put_type ts at t) i ≡ type_at ts i
+  pub type_before : (i : ℕ) → i + 1 < at → type_at (put_type ts at t) i ≡ type_at ts i
   unfolding type_at
-  type_apart i n l m = λ j. record { kind = byte_apart i n m j; p = byte_apart (i + 1) l (λ e. omega arith) j }
+  type_before i l = λ j. record { kind = byte_apart i (λ e. omega arith) (λ e. omega arith) j; p = byte_apart (i + 1) (λ e. omega arith) (λ e. omega arith) j }
+
+  pub type_after : (i : ℕ) → at + 1 < i → type_at (put_type ts at t) i ≡ type_at ts i
+  unfolding type_at
+  type_after i l = λ j. record { kind = byte_apart i (λ e. omega arith) (λ e. omega arith) j; p = byte_apart (i + 1) (λ e. omega arith) (λ e. omega arith) j }
 
 -- the types of an input and of a variable, written at 2 k and at 8 + 2 k
 abbrev pub put_both : List ℕ → ℕ → Ty → Ty → List ℕ
@@ -350,15 +354,17 @@ module _ (ts : List ℕ) (k : ℕ) (t u : Ty) (h : k < 4) (l : length ts ≡ 16)
   module _ (f : ℕ → Ty) where
     pub inputs_more : ((j : ℕ) → j < k → type_at ts (2 * j) ≡ f j) → t ≡ f k → (j : ℕ) → j < k + 1 → type_at (put_both ts k t u) (2 * j) ≡ f j
     inputs_more before here =
+        let size = length_put in
         below_more (λ j. type_at (put_both ts k t u) (2 * j) ≡ f j) k
-        (λ j m. type_apart (put_type ts (2 * k) t) (8 + 2 * k) u (omega (arith, length_put)) (2 * j) (λ e. omega arith) (λ e. omega arith) (λ e. omega arith) ∙ type_apart ts (2 * k) t (omega arith) (2 * j) (λ e. omega arith) (λ e. omega arith) (λ e. omega arith) ∙ before j m)
-        (type_apart (put_type ts (2 * k) t) (8 + 2 * k) u (omega (arith, length_put)) (2 * k) (λ e. omega arith) (λ e. omega arith) (λ e. omega arith) ∙ type_there ts (2 * k) t (omega arith) ∙ here)
+        (λ j m. type_before (put_type ts (2 * k) t) (8 + 2 * k) u (omega arith) (2 * j) (omega arith) ∙ type_before ts (2 * k) t (omega arith) (2 * j) (omega arith) ∙ before j m)
+        (type_before (put_type ts (2 * k) t) (8 + 2 * k) u (omega arith) (2 * k) (omega arith) ∙ type_there ts (2 * k) t (omega arith) ∙ here)
 
     pub variables_more : ((j : ℕ) → j < k → type_at ts (8 + 2 * j) ≡ f j) → u ≡ f k → (j : ℕ) → j < k + 1 → type_at (put_both ts k t u) (8 + 2 * j) ≡ f j
     variables_more before here =
+        let size = length_put in
         below_more (λ j. type_at (put_both ts k t u) (8 + 2 * j) ≡ f j) k
-        (λ j m. type_apart (put_type ts (2 * k) t) (8 + 2 * k) u (omega (arith, length_put)) (8 + 2 * j) (λ e. omega arith) (λ e. omega arith) (λ e. omega arith) ∙ type_apart ts (2 * k) t (omega arith) (8 + 2 * j) (λ e. omega arith) (λ e. omega arith) (λ e. omega arith) ∙ before j m)
-        (type_there (put_type ts (2 * k) t) (8 + 2 * k) u (omega (arith, length_put)) ∙ here)
+        (λ j m. type_before (put_type ts (2 * k) t) (8 + 2 * k) u (omega arith) (8 + 2 * j) (omega arith) ∙ type_after ts (2 * k) t (omega arith) (8 + 2 * j) (omega arith) ∙ before j m)
+        (type_there (put_type ts (2 * k) t) (8 + 2 * k) u (omega arith) ∙ here)
 
 -- the table of types agrees with what the patterns match
 module _ (ts ins vars : List ℕ) (n v : ℕ) (r : Read (List Pattern)) where

@@ -57,7 +57,7 @@ module _ {A : Type 0} (f : List ℕ → Read A) (b : List ℕ) where
 
   rest_list : (x : A) (n : ℕ) (r : Read (List A)) → is_read r ≡ true → list_read (after r (λ rest m. got (x ∷ rest) (n + m))) ≡ x ∷ list_read r
   unfolding is_read list_read after
-  rest_list x n bad e = let z : ◌≡◌ {A = ℕ} 0 1 = cc in absurd (omega arith)
+  rest_list x n bad e = cc
   rest_list x n (got xs m) e = refl
 
   peel_suc : (k at end : ℕ) → is_read (read_many f (suc k) (drop at b)) ≡ true → Found (f (drop at b)) at end → Peel f b (suc k) at end
@@ -77,7 +77,7 @@ module _ {A : Type 0} (f : List ℕ → Read A) (b : List ℕ) where
 
   there_go : (k at : ℕ) (r : Read A) → f (drop at b) ≡ r → is_read (read_many f (suc k) (drop at b)) ≡ true → Peeled f b (suc k) at
   unfolding read_many after is_read
-  there_go k at bad q e = let z : ◌≡◌ {A = Bool} false true = rw q at e in let w : ◌≡◌ {A = ℕ} 0 1 = cc in absurd (omega arith)
+  there_go k at bad q e = let z : ◌≡◌ {A = Bool} false true = rw q at e in cc
   there_go k at (got x n) q e = record { end = at + n; peeled = peel_suc k at (at + n) e (record { thing = x; size = n; read = q; ends = refl }) }
 
   pub there : (k at : ℕ) → 0 < k → is_read (read_many f k (drop at b)) ≡ true → Peeled f b k at
@@ -94,7 +94,7 @@ module _ {A : Type 0} (f g : List ℕ → Read A) (same : (s : List ℕ) → is_
       → is_read (after r (λ a n. after (read_many f k (drop n s)) (λ rest m. got (a ∷ rest) (n + m)))) ≡ true
       → after (g s) (λ a n. after (read_many g k (drop n s)) (λ rest m. got (a ∷ rest) (n + m))) ≡ after r (λ a n. after (read_many f k (drop n s)) (λ rest m. got (a ∷ rest) (n + m)))
   unfolding after is_read
-  wider_go k s bad q h e = let z : ◌≡◌ {A = ℕ} 0 1 = cc in absurd (omega arith)
+  wider_go k s bad q h e = cc
   wider_go k s (got a n) q h e =
       let first : g s ≡ got a n = same s (rw q) ∙ q in
       let rest : is_read (read_many f k (drop n s)) ≡ true = sym (rest_read f s a n (read_many f k (drop n s))) ∙ e in
@@ -108,4 +108,4 @@ module _ {A : Type 0} (f g : List ℕ → Read A) (same : (s : List ℕ) → is_
 pub is_provided : {A : Type 0} (t : Bool) (r : Read A) → is_read (provided t r) ≡ true → t ≡ true
 unfolding is_read provided
 is_provided true r e = refl
-is_provided false r e = let z : ◌≡◌ {A = ℕ} 0 1 = cc in absurd (omega arith)
+is_provided false r e = cc

@@ -94,25 +94,25 @@ exp_there b at e = go (ltb at (length b)) refl
   where
     go : (t : Bool) → ltb at (length b) ≡ t → at ≤ length b
     go true q = omega (arith, ltb-true at (length b) q)
-    go false q = let z : false ≡ true = rw (nothing_there b at (ltb-false at (length b) q)) at e in let w : ◌≡◌ {A = ℕ} 0 1 = cc in absurd (omega arith)
+    go false q = let z : false ≡ true = rw (nothing_there b at (ltb-false at (length b) q)) at e in cc
 
 module _ (sc : Scope) (u : List ℕ) where
   typed_go : (r : Read Exp) {x : TypedTo} → limits_read r ≡ true → Ok x ≡ typed_at sc 0 r → type_of sc (exp_read r) ≡ typed x.ty
   unfolding limits_read typed_at exp_read placed
-  typed_go bad l e = let z : ◌≡◌ {A = ℕ} 0 1 = cc in absurd (omega arith)
+  typed_go bad l e = cc
   typed_go (got e n) {x} l q = go (type_of sc e) q
     where
       go : (y : Typed) → Ok x ≡ placed 0 n y → y ≡ typed x.ty
       go (typed v) q = let w : x ≡ record { ty = v; next = 0 + n } = cc in ap typed (sym (ap (λ (x : TypedTo). x.ty) w))
-      go (ill k) q = let z : ◌≡◌ {A = ℕ} 0 1 = cc in absurd (omega arith)
+      go (ill k) q = cc
 
   ill_go : (r : Read Exp) {k : ℕ} → limits_read r ≡ true → Err k ≡ typed_at sc 0 r → type_of sc (exp_read r) ≡ ill k
   unfolding limits_read typed_at exp_read placed
-  ill_go bad l e = let z : ◌≡◌ {A = ℕ} 0 1 = cc in absurd (omega arith)
+  ill_go bad l e = cc
   ill_go (got x n) {k} l e = go (type_of sc x) e
     where
       go : (y : Typed) → Err k ≡ placed 0 n y → y ≡ ill k
-      go (typed v) q = let z : ◌≡◌ {A = ℕ} 0 1 = cc in absurd (omega arith)
+      go (typed v) q = cc
       go (ill j) q = let w : k ≡ 0 + j = cc in ap ill (omega arith)
 
   pub is_typed_lem : {x : TypedTo} → limits_read (expression u) ≡ true → Ok x ≡ typed_at sc 0 (expression u) → type_of sc (exp_read (expression u)) ≡ typed x.ty
@@ -123,7 +123,7 @@ module _ (sc : Scope) (u : List ℕ) where
 
   ill_bound : (r : Read Exp) {k : ℕ} → expression u ≡ r → limits_read r ≡ true → type_of sc (exp_read r) ≡ ill k → All (λ x m. (1 ≤ m) × (m ≤ length u)) r → k < length u
   unfolding limits_read exp_read All Below
-  ill_bound bad q l e h = let z : ◌≡◌ {A = ℕ} 0 1 = cc in absurd (omega arith)
+  ill_bound bad q l e h = cc
   ill_bound (got x n) {k} q l e h =
       let w : Below (size_of x) (type_of sc x) = below sc x in
       let v : k < size_of x = rw e at w in

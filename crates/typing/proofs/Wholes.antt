@@ -27,13 +27,13 @@ use Rattle.typing.proofs.Actions.{action_read}
 
 pub also_fail : (f g : Fit) (j : ℕ) → Err j ≡ fitting_of f → Err j ≡ fitting_of (also f g)
 unfolding fitting_of also
-also_fail fits g j e = let z : ◌≡◌ {A = ℕ} 0 1 = cc in absurd (omega arith)
+also_fail fits g j e = cc
 also_fail (fails i) g j e = e
 
 pub also_on : (f g : Fit) → Ok tt ≡ fitting_of f → also f g ≡ g
 unfolding fitting_of also
 also_on fits g e = refl
-also_on (fails i) g e = let z : ◌≡◌ {A = ℕ} 0 1 = cc in absurd (omega arith)
+also_on (fails i) g e = cc
 
 -- ── sizes ────────────────────────────────────────────────────────────────────────────────────
 
@@ -118,5 +118,6 @@ unfolding is_read
 vars_read a b p x = rw x.vars.read
 
 -- the patterns of the variables fit as those of inputs do
-pub vars_fit : (vars b : List ℕ) (a : Arity) (p : Parts) → Laid a b p → patterns_fit p.vars (types_in vars a.vars) (list_read (patterns_from false a.vars p.vars b)) ≡ patterns_fit p.vars (types_in vars a.vars) (list_read (patterns_from true a.vars p.vars b))
+pub vars_fit : (vars b : List ℕ) (a : Arity) (p : Parts) → Laid a b p
+    → patterns_fit p.vars (types_in vars a.vars) (list_read (patterns_from false a.vars p.vars b)) ≡ patterns_fit p.vars (types_in vars a.vars) (list_read (patterns_from true a.vars p.vars b))
 vars_fit vars b a p x = ap (λ (r : Read (List Pattern)). patterns_fit p.vars (types_in vars a.vars) (list_read r)) (inputs_too a.vars p.vars b (vars_read a b p x))

@@ -36,7 +36,8 @@ returns-in_err-action_fits c =
     let there = limits_read_lem _ i.invariant.limits in
     let e = action_next false a.b.now (a.n - i.k) i.at (omega arith) there _ refl in
     let p = err_from_is_err_and c.from_residual.result c.from_residual.ensures.1 in
-    rw (p.1, p.2) (acts_fail false a.b.now (scope_in a.types.now) a.table.now a.n i.k i.at _ _ m i.invariant.limits e c.entry.ensures _ (sym c.in_err-action_fits.was ∙ c.action_fits.ensures) i.invariant.left)
+    let f = sym c.in_err-action_fits.was ∙ c.action_fits.ensures in
+    rw (p.1, p.2) (acts_fail false a.b.now (scope_in a.types.now) a.table.now a.n i.k i.at _ _ m i.invariant.limits e c.entry.ensures _ f i.invariant.left)
 
 pub skip_action-at-requires : goal.skip_action-at-requires
 skip_action-at-requires c =
@@ -50,9 +51,10 @@ loop-k-preserved c =
     let m : i.k < a.n = omega arith in
     let there = limits_read_lem _ i.invariant.limits in
     let e = action_next false a.b.now (a.n - i.k) i.at (omega arith) there _ c.skip_action-at.ensures in
+    let f = sym c.in_ok-action_fits.was ∙ c.action_fits.ensures in
     record {
       limits = acts_limits false a.b.now (scope_in a.types.now) a.table.now a.n i.k i.at _ _ m i.invariant.limits e c.entry.ensures;
-      left = acts_more false a.b.now (scope_in a.types.now) a.table.now a.n i.k i.at _ _ m i.invariant.limits e c.entry.ensures (sym c.in_ok-action_fits.was ∙ c.action_fits.ensures) i.invariant.left;
+      left = acts_more false a.b.now (scope_in a.types.now) a.table.now a.n i.k i.at _ _ m i.invariant.limits e c.entry.ensures f i.invariant.left;
     }
 
 pub returns : goal.returns

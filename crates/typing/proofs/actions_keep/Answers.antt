@@ -33,9 +33,10 @@ loop-preserved c =
     let i = c.loop in
     let e = action_next false a.b.now (a.n - i.counter) i.at (omega arith) i.invariant.there _ c.skip_action-at.ensures in
     let q : a.n - (i.counter + 1) ≡ a.n - i.counter - 1 = omega arith in
+    let k = sym c.action_limits.ensures ∙ c.if-not-action_limits.false in
     record {
       there = ap (λ j. is_read (actions_from false j c.skip_action-at.result a.b.now)) q ∙ keep_read false a.b.now (a.n - i.counter) i.at _ (omega arith) i.invariant.there e;
-      left = ap (λ j. left_keep false a.b.now j c.skip_action-at.result) q ∙ keep_more false a.b.now (a.n - i.counter) i.at _ (omega arith) i.invariant.there e (sym c.action_limits.ensures ∙ c.if-not-action_limits.false) i.invariant.left;
+      left = ap (λ j. left_keep false a.b.now j c.skip_action-at.result) q ∙ keep_more false a.b.now (a.n - i.counter) i.at _ (omega arith) i.invariant.there e k i.invariant.left;
     }
 
 pub returns : goal.returns

@@ -19,7 +19,8 @@ actions_keep-requires c = outs_read _ _ _ c.requires c.args.seen
 pub returns-in_err-actions_keep : goal.returns-in_err-actions_keep
 returns-in_err-actions_keep c =
     let p = err_from_is_err_and c.from_residual.result c.from_residual.ensures.1 in
-    rw (p.1, p.2) (sent_over _ _ _ c.requires _ (omega arith) (omega arith) (sym c.expression_limits.ensures ∙ c.if-not-expression_limits.false) _ (sym c.in_err-actions_keep.was ∙ c.actions_keep.ensures))
+    let g = sym c.expression_limits.ensures ∙ c.if-not-expression_limits.false in
+    rw (p.1, p.2) (sent_over _ _ _ c.requires _ (omega arith) (omega arith) g _ (sym c.in_err-actions_keep.was ∙ c.actions_keep.ensures))
 
 pub actions_keep-requires-2 : goal.actions_keep-requires-2
 actions_keep-requires-2 c = sets_there _ _ _ c.requires c.args.seen

@@ -27,7 +27,8 @@ returns-then-not-pattern_fits c =
     let a = c.args in
     let i = c.loop-k in
     let m : i.k < a.n = omega arith in
-    fit_fail false a.b.now a.types.now a.n i.k i.at _ _ _ m i.invariant.there (pattern_next false a.b.now (a.n - i.k) i.at (omega arith) i.invariant.there _ refl) c.entry.ensures c.pattern_fits.ensures c.if-not-pattern_fits.true i.invariant.left
+    let e = pattern_next false a.b.now (a.n - i.k) i.at (omega arith) i.invariant.there _ refl in
+    fit_fail false a.b.now a.types.now a.n i.k i.at _ _ _ m i.invariant.there e c.entry.ensures c.pattern_fits.ensures c.if-not-pattern_fits.true i.invariant.left
 
 pub skip_pattern-at-requires : goal.skip_pattern-at-requires
 skip_pattern-at-requires c =

@@ -11,7 +11,8 @@ returns-in_default c = fault_form _ _ _ _ _ _ _ (sym c.in_default.is ∙ c.parts
 pub returns-in_err-map_err : goal.returns-in_err-map_err
 returns-in_err-map_err c =
     let p = err_from_is_err_and c.from_residual.result c.from_residual.ensures.1 in
-    rw (p.1, p.2) (fault_limits _ _ _ _ _ _ _ (sym c.in-Some.is ∙ c.parts_of.ensures) _ (sym (where_is Limits _ _ _ _ c.limits.ensures (λ k x h. search rules) c.map_err.ensures.cases) ∙ c.in_err-map_err.was))
+    let l = sym (where_is Limits _ _ _ _ c.limits.ensures (λ k x h. search rules) c.map_err.ensures.cases) ∙ c.in_err-map_err.was in
+    rw (p.1, p.2) (fault_limits _ _ _ _ _ _ _ (sym c.in-Some.is ∙ c.parts_of.ensures) _ l)
 
 pub types_fit-requires-clause-kept : goal.types_fit-requires-clause-kept
 types_fit-requires-clause-kept c =
