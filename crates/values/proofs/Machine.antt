@@ -1,19 +1,22 @@
 -- What the machine's 64-bit numbers hold: powers, remainders and patterns, read back from their bits.
 -- Assumes nothing.
 use mathlib.Core.Path.{◌≡◌, refl, sym, ap, ◌∙◌}
-use mathlib.Core.Bool.{Bool, true, false}
-use mathlib.Core.Logic.{⊎_elim, ◌⊎◌, inl, inr}
-use Prim.Native.Nat.{ℕ, zero, suc, ◌+◌, ◌-◌, ◌*◌, ◌/◌, ◌%◌, ◌^◌, ◌≤◌, ◌<◌, suc-le-suc}
-use native.Mathlib.Nat.{div-le_self, mod-lt, mod-eq_of_lt, suc-mod, mod_self, eq-or-lt_of_le, mul-le-mul, le_trans, lt_of_le_of_lt, pos_of_ne-zero}
+use mathlib.Core.Bool.{Bool, true, false, cond}
+use Prim.Native.Nat.{ℕ, zero, suc, ◌+◌, ◌-◌, ◌*◌, ◌/◌, ◌%◌, ◌^◌, ◌≤◌, ◌<◌}
+use native.Mathlib.Nat.{div-le_self, mod-lt, mul-le-mul, le_trans, lt_of_le_of_lt, pos_of_ne-zero}
 use native.Mathlib.Omega.{arith}
 use lib.Dec.{T, leb, ltb, eqb, lit<}
 use lib.IntN.{ℤ, pos, negsuc, neg_ℤ, nat_abs, sub_ℕ, ◌+ℤ◌, ◌-ℤ◌, ◌*ℤ◌}
-use lib.Signed.{mag, lt_z, quot_z, rem_z, non_neg, mag_rem}
+use lib.Signed.{mag, lt_z, le_z, quot_z, rem_z, non_neg, mag_rem}
+use lib.Bits.{bit_and}
+use Rattle.std.proofs.lemmas.Nat.{and_mask, pow-add, shr_below, shr_split, mod_low}
+use Rattle.std.specs.Ordering.{int_cmp, is_lt, is_le}
+use Rattle.std.proofs.Common.{Less, Equal, Greater}
 use lib.Pow.{pow_pos, pow_mono, shl_exact}
 use mir.Syntax.{w64}
 use mir.Val.{SFits, Fits, to_z, of_z}
 use mir.Facts.{to_z_pos, to_z-of_z}
-use borrow.Author.Tests.{lt-ltb, le-ltb, ltb-true, eq-eqb, ne_eqb, eqb-true, eqb-false}
+use borrow.Author.Tests.{lt-ltb, le-leb, lt-leb, ltb-true, ltb-false, eq-eqb, ne_eqb, eqb-true, eqb-false}
 use Rattle.model.specs.Bytes.{mod_z}
 use Rattle.model.specs.Values.{eq_z}
 use Rattle.model.proofs.Wrapping.{mod_z_lt}
@@ -59,61 +62,44 @@ eqb_bits (pos a) (negsuc b) h k = ne_eqb a (2 ^ 64 - suc b) (λ e. omega (arith,
 eqb_bits (negsuc a) (pos b) h k = ne_eqb (2 ^ 64 - suc a) b (λ e. omega (arith, h.sfits, k.sfits))
 eqb_bits (negsuc a) (negsuc b) h k = eqb_by (eqb a b) (2 ^ 64 - suc a) (2 ^ 64 - suc b) a b refl (λ e. omega arith) (λ e. omega (arith, h.sfits, k.sfits))
 
--- a test for zero
+-- a test for zero, and how it came out
 pub zero_bits : (b : ℤ) → SFits w64 b → eqb (of_z w64 b) 0 ≡ eq_z b (pos 0)
 zero_bits b h = eqb_bits b (pos 0) h (record { sfits = lit< tt })
 
+module _ {b : ℤ} (h : SFits w64 b) where
+  pub is_zero : of_z w64 b ≡ 0 → eq_z b (pos 0) ≡ true
+  is_zero e = sym (zero_bits b h) ∙ eq-eqb (of_z w64 b) 0 e
+
+  pub not_zero : (of_z w64 b ≡ 0 → ⊥) → eq_z b (pos 0) ≡ false
+  not_zero n = sym (zero_bits b h) ∙ ne_eqb (of_z w64 b) 0 n
+
 -- ── the remainder modulo 2^p ─────────────────────────────────────────────────────────────────
 
--- suc a % m, by whether a % m is the last
-suc-mod_cases : (a m : ℕ) → 0 < m → ((suc a % m ≡ 0) × (suc (a % m) ≡ m)) ⊎ (suc a % m ≡ suc (a % m))
-suc-mod_cases a m h = ⊎_elim (λ e. inl (suc-mod a m ∙ ap (λ (k : ℕ). k % m) e ∙ mod_self m, e)) (λ l. inr (suc-mod a m ∙ mod-eq_of_lt l)) (eq-or-lt_of_le (mod-lt a h))
+pub mod_small : (p : ℕ) (x : ℤ) → p ≤ 62 → mod_z x (2 ^ p) < 2 ^ 63
+mod_small p x h = omega (arith, mod_z_lt x (2 ^ p) (pow_pos p), pow_62 h)
 
-low_go : (a m k : ℕ) → 0 < m → suc a % m ≡ k → lt_z (neg_ℤ (pos k)) (pos 0) ≡ true → neg_ℤ (pos k) +ℤ pos m ≡ pos (m - suc (a % m))
-low_go a m zero h e t = cc
-low_go a m (suc k) h e t =
-    ⊎_elim (λ w. absurd (omega arith))
-    (λ w. rw (le-ltb m (suc k) (omega (arith, mod-lt a h))) (ap pos (omega arith)))
-    (suc-mod_cases a m h)
+rows : (j q m : ℕ) → (j + suc q) * m ≡ j * m + (q * m + m)
+rows j q m = grind arith
 
-high_go : (a m k : ℕ) → 0 < m → suc a % m ≡ k → lt_z (neg_ℤ (pos k)) (pos 0) ≡ false → neg_ℤ (pos k) ≡ pos (m - suc (a % m))
-high_go a m zero h e t = ⊎_elim (λ w. ap pos (omega arith)) (λ w. absurd (omega arith)) (suc-mod_cases a m h)
-high_go a m (suc k) h e t = cc
+-- the lowest p bits of a number below 0
+low_neg : (p a : ℕ) → p ≤ 62 → a < 2 ^ 63 → (2 ^ 64 - suc a) % 2 ^ p ≡ 2 ^ p - suc (a % 2 ^ p)
+low_neg p a h l =
+    let k = 64 - p in
+    let q = a / 2 ^ p in
+    let j = 2 ^ k - suc q in
+    let sum : k + p ≡ 64 = omega arith in
+    let whole : 2 ^ k * 2 ^ p ≡ 2 ^ 64 = sym (pow-add 2 k p) ∙ ap (λ (i : ℕ). 2 ^ i) sum in
+    let below : q < 2 ^ k = shr_below a k p (rw sum (omega arith)) in
+    let is : 2 ^ k ≡ j + suc q = omega (arith, below) in
+    let parts : 2 ^ k * 2 ^ p ≡ j * 2 ^ p + (q * 2 ^ p + 2 ^ p) = ap (λ (i : ℕ). i * 2 ^ p) is ∙ rows j q (2 ^ p) in
+    let e : 2 ^ 64 - suc a ≡ j * 2 ^ p + (2 ^ p - suc (a % 2 ^ p)) = omega (arith, whole, parts, shr_split a p, mod-lt a (pow_pos p)) in
+    rw e (mod_low j p (2 ^ p - suc (a % 2 ^ p)) (omega (arith, pow_pos p)))
 
--- a negative remainder, plus m
-pub rem_low : (x : ℤ) (m : ℕ) → 0 < m → lt_z (rem_z x (pos m)) (pos 0) ≡ true → rem_z x (pos m) +ℤ pos m ≡ pos (mod_z x m)
+-- the lowest p bits are the remainder
+pub low_bits : (p : ℕ) (x : ℤ) → SFits w64 x → p ≤ 62 → bit_and (of_z w64 x) (2 ^ p - 1) ≡ mod_z x (2 ^ p)
 unfolding mod_z
-rem_low (pos a) m h t = absurd (omega (arith, ltb-true (a % m) 0 t))
-rem_low (negsuc a) m h t = low_go a m (suc a % m) h refl t
-
--- one that is not
-pub rem_high : (x : ℤ) (m : ℕ) → 0 < m → lt_z (rem_z x (pos m)) (pos 0) ≡ false → rem_z x (pos m) ≡ pos (mod_z x m)
-unfolding mod_z
-rem_high (pos a) m h t = refl
-rem_high (negsuc a) m h t = high_go a m (suc a % m) h refl t
-
-mag_neg_pos : (n : ℕ) → mag (neg_ℤ (pos n)) ≤ n
-mag_neg_pos zero = omega arith
-mag_neg_pos (suc n) = omega arith
-
--- x % 2^p, as the machine has it
-module _ (p : ℕ) (x : ℤ) {r : ℤ} (hx : SFits w64 x) (hp : p ≤ 62) (e : r ≡ pos (2 ^ p)) where
-  quot_small : (y : ℤ) → mag y < 2 ^ 63 → mag (quot_z y (pos (2 ^ p))) < 2 ^ 63
-  quot_small (pos a) h = omega (arith, div-le_self a (2 ^ p))
-  quot_small (negsuc a) h = neg_small (suc a / 2 ^ p) (omega (arith, div-le_self (suc a) (2 ^ p)))
-    where
-      neg_small : (q : ℕ) → q ≤ 2 ^ 63 → mag (neg_ℤ (pos q)) < 2 ^ 63
-      neg_small zero l = lit< tt
-      neg_small (suc q) l = omega arith
-
-  pub rem_need : (0 < of_z w64 r) × SFits w64 (quot_z (to_z w64 (of_z w64 x)) (to_z w64 (of_z w64 r)))
-  rem_need = (rw e (pow_pos p), rw (to_z-of_z hx, pow_is p hp e) (record { sfits = quot_small x hx.sfits }))
-
-  pub rem_is : to_z w64 (of_z w64 (rem_z (to_z w64 (of_z w64 x)) (to_z w64 (of_z w64 r)))) ≡ rem_z x (pos (2 ^ p))
-  rem_is = rw (to_z-of_z hx, pow_is p hp e) (to_z-of_z {w = w64} (record { sfits = omega (arith, mag_rem x (pos (2 ^ p)), hx.sfits) }))
-
-  pub mod_small : mod_z x (2 ^ p) < 2 ^ 63
-  mod_small = omega (arith, mod_z_lt x (2 ^ p) (pow_pos p), pow_62 hp)
+low_bits p (pos a) f h = and_mask a p
+low_bits p (negsuc a) f h = and_mask (2 ^ 64 - suc a) p ∙ low_neg p a h f.sfits
 
 -- a pattern, as it is cast
 pub nat_cast : {z : ℤ} {n : ℕ} → z ≡ pos n → n < 2 ^ 63 → T (non_neg (to_z w64 (of_z w64 z))) × Fits w64 (nat_abs (to_z w64 (of_z w64 z)))
@@ -129,6 +115,10 @@ less_fits n zero h l = absurd (omega arith)
 less_fits n (suc m) h l = record { sfits = rw (lt-ltb n (suc m) h) (omega arith) }
 
 -- ── sums, products and quotients of values of 32 bits ────────────────────────────────────────
+
+mag_neg_pos : (n : ℕ) → mag (neg_ℤ (pos n)) ≤ n
+mag_neg_pos zero = omega arith
+mag_neg_pos (suc n) = omega arith
 
 mag_subℕ : (t : Bool) (a b : ℕ) → ltb a b ≡ t → mag (sub_ℕ a b) ≤ a + b
 mag_subℕ true a b e = rw e (omega arith)
@@ -191,30 +181,46 @@ module _ (a : ℤ) (n : ℕ) (h : mag a ≤ 2 ^ 31) (l : n < 32) where
   pub shift_need : to_z w64 (of_z w64 a) *ℤ to_z w64 ((1 * 2 ^ n) % 18446744073709551616) ≡ a *ℤ pos (2 ^ n)
   shift_need = rw (shl_one n (omega arith), back {z = a} (omega arith), to_z_pos w64 {n = 2 ^ n} (omega (arith, pow_62 {p = n} (omega arith))))
 
--- ── the ends of a range: -m and m - 1 ────────────────────────────────────────────────────────
+-- ── in a range: from its least value to below its end ────────────────────────────────────────
 
 neg_is : (m : ℕ) → 0 < m → pos 0 -ℤ pos m ≡ neg_ℤ (pos m)
 neg_is zero h = absurd (omega arith)
 neg_is (suc k) h = rw (lt-ltb 0 (suc k) h) (ap negsuc (omega arith))
 
-less_one : (m : ℕ) → 0 < m → pos m -ℤ pos 1 ≡ pos (m - 1)
-less_one m h = rw (le-ltb m 1 (omega arith))
-
 module _ (m : ℕ) {r : ℤ} (h : 0 < m) (l : m ≤ 4611686018427387904) (e : r ≡ pos m) where
   least_as : pos 0 -ℤ to_z w64 (of_z w64 r) ≡ neg_ℤ (pos m)
   least_as = rw (pos_is e (omega arith)) (neg_is m h)
 
-  greatest_as : to_z w64 (of_z w64 r) -ℤ pos 1 ≡ pos (m - 1)
-  greatest_as = rw (pos_is e (omega arith)) (less_one m h)
-
-  pub least_fits : SFits w64 (pos 0 -ℤ to_z w64 (of_z w64 r))
-  least_fits = rw least_as (record { sfits = omega (arith, mag_neg_pos m) })
-
-  pub greatest_fits : SFits w64 (to_z w64 (of_z w64 r) -ℤ pos 1)
-  greatest_fits = pos_fits greatest_as (omega arith)
-
   pub least_is : to_z w64 (of_z w64 (pos 0 -ℤ to_z w64 (of_z w64 r))) ≡ neg_ℤ (pos m)
-  least_is = to_z-of_z least_fits ∙ least_as
+  least_is = to_z-of_z {w = w64} (rw least_as (record { sfits = omega (arith, mag_neg_pos m) })) ∙ least_as
 
-  pub greatest_is : to_z w64 (of_z w64 (to_z w64 (of_z w64 r) -ℤ pos 1)) ≡ pos (m - 1)
-  greatest_is = pos_is greatest_as (omega arith)
+  pub end_is : to_z w64 (of_z w64 r) ≡ pos m
+  end_is = pos_is e (omega arith)
+
+-- comparisons as std has them
+pub lt_is : (x y : ℤ) → is_lt (int_cmp x y) ≡ lt_z x y
+lt_is x y = go (lt_z x y) (lt_z y x)
+  where
+    go : (a b : Bool) → is_lt (cond a Less (cond b Greater Equal)) ≡ a
+    go true b = refl
+    go false true = refl
+    go false false = refl
+
+le_by : (i j : ℕ) (t u : Bool) → ltb i j ≡ t → ltb j i ≡ u → is_le (cond t Less (cond u Greater Equal)) ≡ leb i j
+le_by i j true u e f = sym (le-leb i j (omega (arith, ltb-true i j e)))
+le_by i j false true e f = sym (lt-leb i j (ltb-true j i f))
+le_by i j false false e f = sym (le-leb i j (ltb-false j i f))
+
+pub le_is : (x y : ℤ) → is_le (int_cmp x y) ≡ le_z x y
+le_is (pos a) (pos b) = le_by a b (ltb a b) (ltb b a) refl refl
+le_is (pos a) (negsuc b) = refl
+le_is (negsuc a) (pos b) = refl
+le_is (negsuc a) (negsuc b) = le_by b a (ltb b a) (ltb a b) refl refl
+
+pub below_is : (z : ℤ) (m : ℕ) → 0 < m → lt_z z (pos m) ≡ le_z z (pos (m - 1))
+below_is (pos a) m h = by_test (ltb a m) refl
+  where
+    by_test : (t : Bool) → ltb a m ≡ t → t ≡ leb a (m - 1)
+    by_test true e = sym (le-leb a (m - 1) (omega (arith, ltb-true a m e)))
+    by_test false e = sym (lt-leb a (m - 1) (omega (arith, ltb-false a m e)))
+below_is (negsuc a) m h = refl

@@ -1,8 +1,7 @@
 -- Every result of an operator on a type of precision 1 to 30 is a fault, or a value of such a type within 32 bits.
 -- Assumes nothing.
-use mathlib.Core.Path.{◌≡◌, refl}
 use mathlib.Core.Bool.{Bool, true, false, not, cond}
-use Prim.Native.Nat.{ℕ, ◌+◌, ◌-◌, ◌/◌, ◌^◌, ◌≤◌, ◌<◌}
+use Prim.Native.Nat.{ℕ, ◌-◌, ◌/◌, ◌^◌, ◌≤◌, ◌<◌}
 use native.Mathlib.Nat.{div-le_self, lt_of_le_of_lt}
 use native.Mathlib.Omega.{arith}
 use lib.Dec.{leb, eqb, lit≤}
@@ -14,8 +13,8 @@ use Rattle.model.specs.declared.Ty.{Ty}
 use Rattle.std.specs.Prelude.{Ok, Err}
 use Rattle.model.specs.declared.Fault.TheVariants.{ZeroDivisor}
 use Rattle.model.specs.Bytes.{mod_z}
-use Rattle.model.specs.Values.{bool, within, pattern, read_back, wrap, truth, eq_z, is_true, Outcome, gives, arithmetic, bitwise, compare, logic, apply, apply_one}
-use Rattle.model.proofs.Wrapping.{pow_30, read_mag, read_within, wrap_mag, wrap_within, pattern_lt}
+use Rattle.model.specs.Values.{bool, pattern, read_back, wrap, truth, eq_z, is_true, Outcome, gives, arithmetic, bitwise, compare, logic, apply, apply_one}
+use Rattle.model.proofs.Wrapping.{pow_30, read_mag, wrap_mag, pattern_lt}
 
 -- a type of precision 1 to 30, and a value that 32 bits hold
 pub record Small (t : Ty) (z : ℤ) : Type 0 where

@@ -22,17 +22,12 @@ pub fn power(p: u8) -> i64
     1 << p
 }
 
-// The p-bit pattern of x: its remainder modulo 2^p.
+// The p-bit pattern of x: its lowest p bits.
 pub fn pattern(t: Ty, x: i64) -> u64
     requires { t.p ≤ 62 }
     ensures { result ≡ pattern_of t x }
 {
-    let m = power(t.p);
-    let r = x % m;
-    if r < 0 {
-        return (r + m) as u64;
-    }
-    r as u64
+    x.cast_unsigned() & ones(t.p)
 }
 
 // A p-bit pattern read back in its type: for signed the upper half less 2^p.
@@ -43,13 +38,11 @@ pub fn read_back(t: Ty, n: u64) -> i64
     ensures { result ≡ read_back t n }
 {
     let x = n as i64;
-    if t.kind != 1 {
-        return x;
+    if t.kind == 1 && power(t.p - 1) <= x {
+        x - power(t.p)
+    } else {
+        x
     }
-    if x < power(t.p - 1) {
-        return x;
-    }
-    x - power(t.p)
 }
 
 // A result wraps modulo 2^p.
@@ -58,11 +51,11 @@ pub fn wrap(t: Ty, x: i64) -> i64
     requires p_bound { t.p ≤ 62 }
     ensures { result ≡ wrap_of t x }
 {
-    let n = pattern(t, x);
-    read_back(t, n)
+    read_back(t, pattern(t, x))
 }
 
 // The bool type's kind.
+#[tactic(auto, unfolding(model::specs::Values::is_bool))]
 pub fn is_bool(t: Ty) -> bool
     ensures { result ≡ is_bool t }
 {
@@ -70,30 +63,34 @@ pub fn is_bool(t: Ty) -> bool
 }
 
 // Signed or unsigned.
+#[tactic(auto, unfolding(model::specs::Values::is_number))]
 pub fn is_number(t: Ty) -> bool
     ensures { result ≡ is_number t }
 {
-    (t.kind == 1) | (t.kind == 2)
+    matches!(t.kind, 1 | 2)
 }
 
 // A wire of marks and data.
+#[tactic(auto, unfolding(model::specs::Values::is_dc))]
 pub fn is_dc(t: Ty) -> bool
     ensures { result ≡ is_dc t }
 {
-    (t.kind == 3) | (t.kind == 4)
+    matches!(t.kind, 3 | 4)
 }
 
 // The type of the values that a wire carries.
+#[tactic(auto, unfolding(model::specs::Values::carried, model::specs::Values::is_dc))]
 pub fn carried(t: Ty) -> Ty
     ensures { result ≡ carried_of t }
 {
     if is_dc(t) {
-        return Ty {
+        Ty {
             kind: t.kind - 2,
             p: t.p,
-        };
+        }
+    } else {
+        t
     }
-    t
 }
 
 // The same kind and the same precision.
@@ -105,24 +102,27 @@ pub fn same_type(t: Ty, u: Ty) -> bool
 }
 
 // Precision 1 to 30.
+#[tactic(auto, unfolding(model::specs::Values::in_precision))]
 pub fn in_precision(t: Ty) -> bool
     ensures { result ≡ in_precision t }
 {
-    (1 <= t.p) & (t.p <= 30)
+    (1..=30).contains(&t.p)
 }
 
 // A bool has p = 1.
+#[tactic(auto, unfolding(model::specs::Values::well_sized, model::specs::Values::is_bool))]
 pub fn well_sized(t: Ty) -> bool
     ensures { result ≡ well_sized t }
 {
-    (t.kind != 0) | (t.p == 1)
+    t.kind != 0 || t.p == 1
 }
 
 // A type as an expression or a variable has one.
+#[tactic(auto, unfolding(model::specs::Values::is_plain))]
 pub fn is_plain(t: Ty) -> bool
     ensures { result ≡ is_plain t }
 {
-    (t.kind <= 2) & well_sized(t)
+    t.kind <= 2 && well_sized(t)
 }
 
 // Is the value of the type: signed from -2^(p-1) to 2^(p-1) - 1, else from 0 to 2^p - 1.
@@ -133,20 +133,18 @@ pub fn within(t: Ty, z: i64) -> bool
 {
     if t.kind == 1 {
         let half = power(t.p - 1);
-        return (0 - half <= z) & (z <= half - 1);
+        (-half..half).contains(&z)
+    } else {
+        (0..power(t.p)).contains(&z)
     }
-    let all = power(t.p);
-    (0 <= z) & (z <= all - 1)
 }
 
 // A dc wire takes the tags from 1 on, a plain one tag 0.
+#[tactic(auto, unfolding(model::specs::Rules::tag_fits))]
 pub fn tag_fits(t: Ty, tag: u8) -> bool
     ensures { result ≡ tag_fits t tag }
 {
-    if is_dc(t) {
-        return 1 <= tag;
-    }
-    tag == 0
+    if is_dc(t) { 1 <= tag } else { tag == 0 }
 }
 
 // A wire's token: a tag of its wire, the value zero for marks and else of the type carried.
@@ -155,17 +153,13 @@ pub fn token_fits(t: Ty, k: Token) -> bool
     requires p_bound { t.p ≤ 62 }
     ensures { result ≡ token_fits t k }
 {
-    if !tag_fits(t, k.tag) {
+    if !tag_fits(t, k.tag) || 3 < k.tag {
         return false;
     }
-    if 3 < k.tag {
-        return false;
+    match k.tag {
+        1 | 2 => k.value == 0,
+        _ => within(carried(t), k.value),
     }
-    if (k.tag == 1) | (k.tag == 2) {
-        return k.value == 0;
-    }
-    let u = carried(t);
-    within(u, k.value)
 }
 
 // The greatest pattern of p bits.
@@ -252,11 +246,9 @@ pub fn compare(o: u8, a: i64, b: i64) -> bool
 pub fn logic(o: u8, a: i64, b: i64) -> bool
     ensures { result ≡ logic_of o a b }
 {
-    let x = a != 0;
-    let y = b != 0;
     match o {
-        26 => x & y,
-        _ => x | y,
+        26 => a != 0 && b != 0,
+        _ => a != 0 || b != 0,
     }
 }
 
@@ -291,15 +283,14 @@ pub fn apply_one(o: u8, t: Ty, a: i64) -> Outcome
     requires p_bound { t.p ≤ 62 }
     ensures { result ≡ apply_one o t a }
 {
-    if o == 4 {
-        return Ok(Value {
+    match o {
+        4 => Ok(Value {
             ty: BOOL,
             value: truth(a == 0),
-        });
+        }),
+        _ => Ok(Value {
+            ty: t,
+            value: read_back(t, ones(t.p) - pattern(t, a)),
+        }),
     }
-    let x = pattern(t, a);
-    Ok(Value {
-        ty: t,
-        value: read_back(t, ones(t.p) - x),
-    })
 }

@@ -1,6 +1,7 @@
 use mathlib.Core.Path.{◌≡◌, refl}
 use mathlib.Core.Bool.{Bool, true, false, not}
-use borrow.Author.Tests.{eq-eqb, ne_eqb}
+use native.Mathlib.Omega.{arith}
+use borrow.Author.Tests.{ne_eqb}
 use lib.IntN.{pos}
 use lib.Pow.{le_ones}
 use mir.Facts.{to_z-of_z}
@@ -13,16 +14,14 @@ not-not : (b : Bool) → not (not b) ≡ b
 not-not true = refl
 not-not false = refl
 
-pub returns-then-o-eq4 : goal.returns-then-o-eq4
+pub returns-in-4 : goal.returns-in-4
 unfolding apply_one bool is_true
-returns-then-o-eq4 c =
-    let a = c.args.a in
-    rw (back c.truth.type_inv, c.truth.ensures, zero_bits a c.ranges.a, eq-eqb c.args.o 4 c.if-o-eq4.true, not-not (eq_z a (pos 0)))
+returns-in-4 c = let a = c.args.a in rw (back c.truth.type_inv, c.truth.ensures, zero_bits a c.ranges.a, c.in-4.is, not-not (eq_z a (pos 0)))
 
 pub overflow_sub-ones : goal.overflow_sub-ones
-overflow_sub-ones c = rw (c.ones.ensures, c.pattern-x.ensures, to_z-of_z c.ranges.a) (le_ones c.args.t.p (pattern_lt c.args.t c.args.a))
+overflow_sub-ones c = rw (c.ones.ensures, c.pattern.ensures, to_z-of_z c.ranges.a) (le_ones c.args.t.p (pattern_lt c.args.t c.args.a))
 
-pub returns : goal.returns
+pub returns-in_default : goal.returns-in_default
 unfolding apply_one bool is_true
-returns c =
-    rw (back c.read_back.type_inv, c.read_back.ensures, c.ones.ensures, c.pattern-x.ensures, to_z-of_z c.ranges.a, ne_eqb c.args.o 4 c.if-o-eq4.false)
+returns-in_default c =
+    rw (back c.read_back.type_inv, c.read_back.ensures, c.ones.ensures, c.pattern.ensures, to_z-of_z c.ranges.a, ne_eqb c.args.o 4 (omega arith))

@@ -1,22 +1,11 @@
-use mathlib.Core.Path.{◌≡◌, sym, ◌∙◌}
-use mathlib.Core.Bool.{true, false}
+use mathlib.Core.Path.{◌≡◌}
 use native.Mathlib.Omega.{arith}
-use borrow.Author.Tests.{eq-eqb, ne_eqb}
-use lib.IntN.{ℤ, pos, ◌+ℤ◌, ◌-ℤ◌, ◌*ℤ◌}
+use borrow.Author.Tests.{ne_eqb}
+use lib.IntN.{◌+ℤ◌, ◌-ℤ◌, ◌*ℤ◌}
 use lib.Signed.{quot_z, rem_z}
-use mir.Syntax.{w64}
-use mir.Val.{SFits, of_z}
-use Rattle.model.specs.Values.{eq_z, arithmetic}
-use Rattle.values.proofs.Machine.{bits_of, zero_bits, add_fits, sub_fits, mul_fits, quot_fits, rem_fits}
+use Rattle.model.specs.Values.{arithmetic}
+use Rattle.values.proofs.Machine.{bits_of, is_zero, not_zero, add_fits, sub_fits, mul_fits, quot_fits, rem_fits}
 use Rattle.values.proofs.arithmetic.Goals as goal
-
--- a divisor and zero
-module _ {b : ℤ} (h : SFits w64 b) where
-  is_zero : of_z w64 b ≡ 0 → eq_z b (pos 0) ≡ true
-  is_zero e = sym (zero_bits b h) ∙ eq-eqb (of_z w64 b) 0 e
-
-  not_zero : (of_z w64 b ≡ 0 → ⊥) → eq_z b (pos 0) ≡ false
-  not_zero n = sym (zero_bits b h) ∙ ne_eqb (of_z w64 b) 0 n
 
 pub returns-in_default : goal.returns-in_default
 unfolding arithmetic

@@ -89,8 +89,7 @@ pub returns-in_default : goal.returns-in_default
 unfolding bitwise
 returns-in_default c =
     let o = c.args.o in
-    let r = c.in_default.in_default-own.rest in
     let b = c.read_back-in_default in
     let x_is = pattern_is c.args.t c.ranges.a c.pattern-x.ensures in
     let n_is = count_is c.ranges.b c.pattern-n.ensures in
-    rw (back b.type_inv, b.ensures, ne_eqb o 18 r.1, ne_eqb o 17 r.0.1, ne_eqb o 16 r.0.0.1, ne_eqb o 15 r.0.0.0.1, x_is, n_is)
+    rw (back b.type_inv, b.ensures, ne_eqb o 18 (omega arith), ne_eqb o 17 (omega arith), ne_eqb o 16 (omega arith), ne_eqb o 15 (omega arith), x_is, n_is)

@@ -1,3 +1,4 @@
+use native.Mathlib.Omega.{arith}
 use borrow.Author.Tests.{ne_eqb}
 use mir.Facts.{to_z-of_z}
 use Rattle.model.specs.Values.{compare}
@@ -28,5 +29,4 @@ pub returns-in_default : goal.returns-in_default
 unfolding compare
 returns-in_default c =
     let o = c.args.o in
-    let r = c.in_default.in_default-own.rest in
-    rw (to_z-of_z c.ranges.a, to_z-of_z c.ranges.b, ne_eqb o 24 r.1, ne_eqb o 23 r.0.1, ne_eqb o 22 r.0.0.1, ne_eqb o 21 r.0.0.0.1, ne_eqb o 20 r.0.0.0.0.1)
+    rw (to_z-of_z c.ranges.a, to_z-of_z c.ranges.b, ne_eqb o 24 (omega arith), ne_eqb o 23 (omega arith), ne_eqb o 22 (omega arith), ne_eqb o 21 (omega arith), ne_eqb o 20 (omega arith))
