@@ -11,21 +11,18 @@ use lib.IntN.{ℤ}
 use lib.ListN.{get_or, take, drop, length, drop_of_length-le}
 use lib.Seq.{drop-cons}
 use Rattle.model.specs.declared.Token.{Token}
-use Rattle.model.specs.declared.Outcome.{Outcome}
-use Rattle.model.specs.declared.Outcome.TheVariants.{Value, Fault}
+use Rattle.std.specs.Prelude.{Result, Ok, Err, ⊤}
+use Rattle.model.specs.declared.Fault.{Fault}
 use Rattle.model.specs.Bytes.{value_at}
-use Rattle.model.specs.Values.{is_true}
+use Rattle.model.specs.Values.{Outcome, is_true}
 use Rattle.model.specs.Expressions.{Env, value_of}
 use Rattle.model.specs.Rules.{Pattern, ignore, pattern_of, pattern_size, patterns_size, Rule, rule_read, read_rule}
 use Rattle.model.specs.Cycles.{Mark, quiet, fires, faulty, matches, attempt, guarded, chosen, or_else, first, up_from}
 use Rattle.shapes.specs.declared.Arity.{Arity}
 use Rattle.shapes.specs.Shapes.{types_in}
 use Rattle.matching.specs.Outs.{open_from}
-use Rattle.actions.specs.declared.Faults.{Faults}
-use Rattle.actions.specs.declared.Faults.TheVariants as faults
 use Rattle.actions.specs.Acts.{faults_of, mark_or}
 use Rattle.actions.proofs.Worked.{chosen_faults}
-use Rattle.trying.specs.declared.Judgement.TheVariants as judgement
 use Rattle.trying.specs.Views.{token_of, ready_from, view_env, judge_of, try_on}
 use Rattle.trying.specs.Working.{Ruled, judged_as}
 use Rattle.trying.proofs.Offsets.{StandsAt, ins_many, all_many, here_stands, here_next, here_guard}
@@ -48,7 +45,7 @@ module _ (f : ℕ → Mark) (n : ℕ) where
   unfolding or_else
   first_fires r l e = first_is r l ∙ rw e
 
-  pub first_faulty : (r m : ℕ) → r < n → f r ≡ faulty m → from r ≡ faulty m
+  pub first_faulty : (r : ℕ) (m : Fault) → r < n → f r ≡ faulty m → from r ≡ faulty m
   unfolding or_else
   first_faulty r m l e = first_is r l ∙ rw e
 
@@ -67,10 +64,10 @@ renumber k quiet = quiet
 renumber k (fires j) = fires k
 renumber k (faulty n) = faulty n
 
-number_or : (k : ℕ) (x : Faults) (m : Mark) → renumber k (mark_or x m) ≡ mark_or x (renumber k m)
+number_or : (k : ℕ) (x : Result ⊤ Fault) (m : Mark) → renumber k (mark_or x m) ≡ mark_or x (renumber k m)
 unfolding renumber mark_or
-number_or k faults.Clear m = refl
-number_or k (faults.Fault n) m = refl
+number_or k (Ok u) m = refl
+number_or k (Err x) m = refl
 
 number_if : (k : ℕ) (t : Bool) (m : Mark) → renumber k (attempt t m) ≡ attempt t (renumber k m)
 unfolding renumber attempt
@@ -79,10 +76,10 @@ number_if k false m = refl
 
 number_guarded : (k : ℕ) (en : Env) (r : Rule) (v : Outcome) → renumber k (guarded en r 0 v) ≡ guarded en r k v
 unfolding guarded renumber
-number_guarded k en r (Fault n) = refl
-number_guarded k en r (Value t z) =
-    number_if k (is_true z) (chosen en r 0)
-    ∙ ap (attempt (is_true z)) (ap (renumber k) (chosen_faults en r 0) ∙ number_or k (faults_of en r.outs) _ ∙ ap (mark_or (faults_of en r.outs)) (number_or k (faults_of en r.sets) (fires 0)) ∙ sym (chosen_faults en r k))
+number_guarded k en r (Err x) = refl
+number_guarded k en r (Ok v) =
+    number_if k (is_true v.value) (chosen en r 0)
+    ∙ ap (attempt (is_true v.value)) (ap (renumber k) (chosen_faults en r 0) ∙ number_or k (faults_of en r.outs) _ ∙ ap (mark_or (faults_of en r.outs)) (number_or k (faults_of en r.sets) (fires 0)) ∙ sym (chosen_faults en r k))
 
 module _ (en : Env) (full : List ℕ) (r : Rule) (k : ℕ) where
   number_judged : renumber k (judge_of en full r 0) ≡ judge_of en full r k
@@ -92,19 +89,19 @@ module _ (en : Env) (full : List ℕ) (r : Rule) (k : ℕ) where
   said : (m : Mark) → judge_of en full r 0 ≡ m → judge_of en full r k ≡ renumber k m
   said m e = sym number_judged ∙ ap (renumber k) e
 
-  by_quiet : (m : Mark) → judgement.Quiet ≡ judged_as m → renumber k m ≡ quiet
+  by_quiet : (m : Mark) → Ok false ≡ judged_as m → renumber k m ≡ quiet
   unfolding judged_as renumber
   by_quiet quiet e = refl
   by_quiet (fires j) e = let z : ◌≡◌ {A = ℕ} 0 1 = cc in absurd (omega arith)
   by_quiet (faulty n) e = let z : ◌≡◌ {A = ℕ} 0 1 = cc in absurd (omega arith)
 
-  by_fires : (m : Mark) → judgement.Fires ≡ judged_as m → renumber k m ≡ fires k
+  by_fires : (m : Mark) → Ok true ≡ judged_as m → renumber k m ≡ fires k
   unfolding judged_as renumber
   by_fires quiet e = let z : ◌≡◌ {A = ℕ} 0 1 = cc in absurd (omega arith)
   by_fires (fires j) e = refl
   by_fires (faulty n) e = let z : ◌≡◌ {A = ℕ} 0 1 = cc in absurd (omega arith)
 
-  by_faulty : (j : ℕ) (m : Mark) → judgement.Faulty j ≡ judged_as m → renumber k m ≡ faulty j
+  by_faulty : (j : Fault) (m : Mark) → Err j ≡ judged_as m → renumber k m ≡ faulty j
   unfolding judged_as renumber
   by_faulty j quiet e = let z : ◌≡◌ {A = ℕ} 0 1 = cc in absurd (omega arith)
   by_faulty j (fires i) e = let z : ◌≡◌ {A = ℕ} 0 1 = cc in absurd (omega arith)
@@ -177,11 +174,11 @@ module _ (a : Arity) (ins vars b : List ℕ) (w : Ruled a ins vars b) (heads : L
       unfolding try_on attempt ready_from
       trial_is full r = let e : drop j all ≡ [] = drop_of_length-le all {i = j} (omega (arith, l, all_many)) in rw (sym h.left ∙ ap (ready_from f j) e)
 
-      pub trial_quiet : (full : List ℕ) (r : ℕ) → judgement.Quiet ≡ judged_as (judge_of en full ru 0) → trial full r ≡ quiet
+      pub trial_quiet : (full : List ℕ) (r : ℕ) → Ok false ≡ judged_as (judge_of en full ru 0) → trial full r ≡ quiet
       trial_quiet full r e = trial_is full r ∙ said en full ru r _ refl ∙ by_quiet en full ru r _ e
 
-      pub trial_fires : (full : List ℕ) (r : ℕ) → judgement.Fires ≡ judged_as (judge_of en full ru 0) → trial full r ≡ fires r
+      pub trial_fires : (full : List ℕ) (r : ℕ) → Ok true ≡ judged_as (judge_of en full ru 0) → trial full r ≡ fires r
       trial_fires full r e = trial_is full r ∙ said en full ru r _ refl ∙ by_fires en full ru r _ e
 
-      pub trial_faulty : (full : List ℕ) (r n : ℕ) → judgement.Faulty n ≡ judged_as (judge_of en full ru 0) → trial full r ≡ faulty n
+      pub trial_faulty : (full : List ℕ) (r : ℕ) (n : Fault) → Err n ≡ judged_as (judge_of en full ru 0) → trial full r ≡ faulty n
       trial_faulty full r n e = trial_is full r ∙ said en full ru r _ refl ∙ by_faulty en full ru r n _ e

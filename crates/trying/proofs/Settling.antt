@@ -1,7 +1,7 @@
 -- A rule's values and types in the tables of the code, and as its box sees them.
 -- Assumes nothing.
 use mathlib.Core.Path.{◌≡◌, refl, ap, ◌∙◌, subst}
-use mathlib.Core.Bool.{false}
+use mathlib.Core.Bool.{Bool, false}
 use mathlib.Core.List.{List, []}
 use Prim.Native.Nat.{ℕ, ◌≤◌, ◌^◌}
 use lib.IntN.{ℤ, pos}
@@ -20,7 +20,8 @@ use Rattle.evaluation.specs.Envs.{env_in, EnvFits}
 use Rattle.matching.specs.Outs.{open_from}
 use Rattle.actions.proofs.Worked.{Alike, Judged, judged_same, guarded-same}
 use Rattle.actions.proofs.Precise.{env_fits}
-use Rattle.trying.specs.declared.Judgement.{Judgement}
+use Rattle.std.specs.Prelude.{Result}
+use Rattle.model.specs.declared.Fault.{Fault}
 use Rattle.trying.specs.Views.{view_env, judge_of}
 use Rattle.trying.specs.Working.{AtGuard, Ruled, judged_as}
 
@@ -62,6 +63,6 @@ module _ (a : Arity) (ins vars b : List ℕ) (w : Ruled a ins vars b) where
       vars = λ i e. refl;
     }
 
-    pub settled_as : {q : Judgement} (full : List ℕ) (vals : List ℤ) → q ≡ judged_as (judge_of (env_in vals types) full r 0) → q ≡ judged_as (judge_of (view_env (types_in ins a.ins) (types_in vars a.vars) vals r) full r 0)
+    pub settled_as : {q : Result Bool Fault} (full : List ℕ) (vals : List ℤ) → q ≡ judged_as (judge_of (env_in vals types) full r 0) → q ≡ judged_as (judge_of (view_env (types_in ins a.ins) (types_in vars a.vars) vals r) full r 0)
     unfolding env_in
     settled_as full vals e = e ∙ ap judged_as (judge_same (env_in vals types) _ (alike vals) full r judged_in 0)

@@ -1,15 +1,15 @@
 -- A rule against what its box sees: of each input the oldest token's tag and value, of each variable its value, the outputs that are full.
 -- Assumes nothing.
-use Rattle.std.specs.Prelude.{ℕ, ◌+◌, ◌-◌, Bool, true, cond, ◌&&◌, List, [], ◌∷◌, ◌++◌, ltb, ℤ, pos, get_or, length}
+use Rattle.std.specs.Prelude.{ℕ, ◌+◌, ◌-◌, Bool, true, cond, ◌&&◌, List, [], ◌∷◌, ◌++◌, ltb, ℤ, pos, get_or, length, Result, Ok, Err, Option, Some, None}
 use Rattle.model.specs.declared.Ty.{Ty}
 use Rattle.model.specs.declared.Token.{Token}
+use Rattle.model.specs.declared.RuleId.{RuleId}
+use Rattle.model.specs.declared.Fault.{Fault}
 use Rattle.model.specs.Expressions.{Env, value_of}
 use Rattle.model.specs.Rules.{Pattern, Rule, matched_types}
 use Rattle.model.specs.Cycles.{Mark, quiet, fires, faulty, matches, attempt, guarded}
 use Rattle.evaluation.specs.Envs.{env_in}
 use Rattle.matching.specs.Outs.{open_from}
-use Rattle.trying.specs.declared.Tried.{Tried}
-use Rattle.trying.specs.declared.Tried.TheVariants as tried
 
 -- the token that pattern j is held against: the oldest of input j, then the variables as plain tokens
 unfoldable pub token_of : ℕ → List ℕ → List ℤ → ℕ → Token
@@ -32,7 +32,7 @@ judge_of en full r k = let m = guarded en r k (value_of en r.guard) in attempt (
 unfoldable pub try_on : List Ty → List Ty → List ℕ → List ℕ → List ℤ → Rule → ℕ → Mark
 try_on is vs heads full vals r k = let m = judge_of (view_env is vs vals r) full r k in attempt (ready_from (token_of (length r.ins) heads vals) 0 (r.ins ++ r.vars)) m
 
-unfoldable pub mark_as : Mark → Tried  -- as the code says it
-mark_as quiet = tried.Quiet
-mark_as (fires k) = tried.Fires (record { 0 = k })
-mark_as (faulty n) = tried.Faulty n
+unfoldable pub mark_as : Mark → Result (Option RuleId) Fault  -- as the code says it
+mark_as quiet = Ok None
+mark_as (fires k) = Ok (Some (record { 0 = k }))
+mark_as (faulty x) = Err x

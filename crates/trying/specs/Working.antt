@@ -1,7 +1,8 @@
 -- A rule's body that can be worked out, and where in it a reader stands.
 -- Assumes nothing.
-use Rattle.std.specs.Prelude.{ℕ, ◌≤◌, ◌<◌, ◌^◌, ◌≡◌, false, List, ℤ, pos, length, get_or}
+use Rattle.std.specs.Prelude.{ℕ, ◌≤◌, ◌<◌, ◌^◌, ◌≡◌, Bool, true, false, List, ℤ, pos, length, get_or, Result, Ok, Err}
 use Rattle.std.specs.Int.Signed.{mag}
+use Rattle.model.specs.declared.Fault.{Fault}
 use Rattle.model.specs.Values.{no_type}
 use Rattle.model.specs.Rules.{rule_read, read_rule}
 use Rattle.model.specs.NetworkFile.{body_at, box_at, rule_at}
@@ -10,7 +11,6 @@ use Rattle.model.proofs.Decoded.{Each, GoodType}
 use Rattle.types.specs.Scopes.{scope_in}
 use Rattle.table.specs.declared.Counts.{Counts}
 use Rattle.table.specs.Table.{index_in}
-use Rattle.lookup.specs.Tabled.{Tabled}
 use Rattle.shapes.specs.Shapes.{types_in}
 use Rattle.shapes.specs.declared.Arity.{Arity}
 use Rattle.rules.specs.declared.Parts.{Parts}
@@ -18,8 +18,6 @@ use Rattle.rules.specs.Bodies.{patterns_from}
 use Rattle.rules.proofs.Laying.{Laid}
 use Rattle.typing.specs.Fits.{Kept, scope_read}
 use Rattle.actions.proofs.Worked.{Judged}
-use Rattle.trying.specs.declared.Judgement.{Judgement}
-use Rattle.trying.specs.declared.Judgement.TheVariants as judgement
 
 -- its parts lie there and keep the limits, and its expressions have a type where these are the types that they name
 pub record Workable (a : Arity) (b : List ℕ) (types : List ℕ) : Type 0 where
@@ -65,7 +63,6 @@ pub record Settled (a : Arity) (ins vars b : List ℕ) (at : ℕ) (vals : List �
 
 -- each of the first n rules of box k of an accepted network
 pub record Rules (s t : List ℕ) (c : Counts) (k n : ℕ) (a : Arity) (ins vars : List ℕ) : Type 0 where
-  pub tabled : Tabled s t c
   pub known : k < c.boxes
   pub there : n ≤ length (box_at s (index_in t c) k).rules
   pub few : n ≤ 16
@@ -74,7 +71,7 @@ pub record Rules (s t : List ℕ) (c : Counts) (k n : ℕ) (a : Arity) (ins vars
   pub ruled : (r : ℕ) → r < n → Ruled a ins vars (body_at s (rule_at (index_in t c) k r))
 
 -- as the code says it, without the rule's number
-unfoldable pub judged_as : Mark → Judgement
-judged_as quiet = judgement.Quiet
-judged_as (fires k) = judgement.Fires
-judged_as (faulty n) = judgement.Faulty n
+unfoldable pub judged_as : Mark → Result Bool Fault
+judged_as quiet = Ok false
+judged_as (fires k) = Ok true
+judged_as (faulty x) = Err x

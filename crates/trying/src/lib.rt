@@ -1,58 +1,56 @@
 #![tactic(auto)]
 
 // A box's rules tried in the file's order against what the box sees.
-ghost use Rattle.std.specs.Prelude.{◌≡◌, ◌+◌, ◌≤◌, ◌<◌, length, get_or};
-ghost use Rattle.model.specs.Bytes.{value_at};
+ghost use Rattle.std.specs.Prelude.{◌≡◌, ◌+◌, ◌≤◌, ◌<◌, length};
 ghost use Rattle.model.specs.Values.{is_true};
-ghost use Rattle.model.specs.Rules.{pattern_of, rule_read, read_rule};
-ghost use Rattle.model.specs.NetworkFile.{body_at, rule_at};
-ghost use Rattle.model.specs.Cycles.{matches, chosen as chosen_of, first, up_from};
+ghost use Rattle.model.specs.Rules.{rule_read, read_rule};
+ghost use Rattle.model.specs.Cycles.{chosen as chosen_of, first, up_from};
 ghost use Rattle.evaluation.specs.Named.{named_by};
-ghost use Rattle.table.specs.Table.{index_in};
 ghost use Rattle.shapes.specs.Shapes.{types_in};
 ghost use Rattle.rules.specs.Bodies.{layout_of, Parted, outs_at};
-ghost use Rattle.trying.specs.Views.{token_of, view_env, judge_of, try_on, mark_as};
+ghost use Rattle.trying.specs.Views.{token_of, view_env, judge_of, mark_as};
+ghost use Rattle.trying.specs.Scenes.{trial, settled};
 ghost use Rattle.trying.specs.Working.{AtGuard, AtActions, Settled, Rules, Smalls, judged_as};
 
-use actions::Faults;
 use evaluation::Env;
-use matching::Outs;
-use model::{Outcome, ProcessId, RuleId};
+use lookup::Net;
+use model::{Fault, ProcessId, RuleId, Token};
 use shapes::Arity;
-use table::Counts;
 
-// What comes of a rule whose patterns are ready.
+// What a box's rules are tried against: how many ports and variables it has, the types of its inputs and of its variables, and what it
+// sees: of each input the oldest token's tag and value, the values of its variables from 4 on, of each output whether its wire is full.
 #[derive(Clone, Copy)]
-pub enum Judgement {
-    Quiet,
-    Fires,
-    Faulty { number: u8 },
+pub struct Scene<'a> {
+    pub arity: Arity,
+    pub ins: &'a [u8],
+    pub vars: &'a [u8],
+    pub heads: &'a [u8],
+    pub full: &'a [u8],
+    pub vals: &'a [i64; 8],
 }
 
-// What trying a box's rules finds: none fires, the first that does, or a fault with its number.
-#[derive(Clone, Copy)]
-pub enum Tried {
-    Quiet,
-    Fires { rule: RuleId },
-    Faulty { number: u8 },
-}
-
-// Pattern j, at an offset of the rule's body: of an input against its oldest token, of a variable against its value.
-fn port_ready(b: &[u8], at: usize, j: usize, ins: usize, heads: &[u8], vals: &[i64; 8]) -> bool
-    requires at_in_bounds { at < length b.now }
-    requires j_bound { (j < 8) × (ins ≤ 4) }
-    requires j_bound_2 { j < ins + 4 }
-    ensures { result ≡ matches (pattern_of (get_or b.now at 0) (value_at b.now (at + 1))) (token_of ins heads.now vals.now j) }
+// What pattern j is held against: the oldest token of input j, then the variables' values as plain tokens.
+#[tactic(auto, unfolding(crate::specs::Views::token_of))]
+fn token_at(scene: &Scene, j: usize) -> Token
+    requires ins_bound { scene.now.arity.ins ≤ 4 }
+    requires j_bound { j < scene.now.arity.ins + 4 }
+    ensures { result ≡ token_of scene.now.arity.ins scene.now.heads.now scene.now.vals.now j }
 {
+    let ins = scene.arity.ins;
     if j < ins {
-        let tag = octets::byte_at(heads, j);
-        return matching::pattern_ready(b, at, tag, evaluation::number_at(vals, j));
+        return Token {
+            tag: octets::byte_at(scene.heads, j),
+            value: scene.vals[j],
+        };
     }
-    let k = 4 + (j - ins);
-    matching::pattern_ready(b, at, 0, evaluation::number_at(vals, k))
+    Token {
+        tag: 0,
+        value: scene.vals[4 + (j - ins)],
+    }
 }
 
 // A guard's value.
+#[tactic(auto, using(values::proofs::Machine::zero_bits), unfolding(model::specs::Values::is_true))]
 fn is_true(z: i64) -> bool
     ensures { result ≡ is_true z }
 {
@@ -60,59 +58,41 @@ fn is_true(z: i64) -> bool
 }
 
 // A rule whose guard is true: its actions are worked out for faults, those of outputs first.
-fn chosen(b: &[u8], outs: usize, sets: usize, a: Arity, env: &Env) -> Judgement
+fn chosen(b: &[u8], outs: usize, sets: usize, a: Arity, env: &Env) -> Result<bool, Fault>
     requires { AtActions a b.now outs sets env.now.types }
     ensures { result ≡ judged_as (chosen_of (named_by env.now) (rule_read (read_rule a.ins a.outs a.vars b.now)) 0) }
 {
-    let f = actions::actions_fault(b, outs, a.outs, env, false);
-    if let Faults::Fault { number } = f {
-        return Judgement::Faulty { number };
-    }
-    let g = actions::actions_fault(b, sets, a.vars, env, true);
-    if let Faults::Fault { number } = g {
-        return Judgement::Faulty { number };
-    }
-    Judgement::Fires
+    actions::actions_fault(b, outs, a.outs, env)?;
+    actions::actions_fault(b, sets, a.vars, env)?;
+    Ok(true)
 }
 
-// A rule whose patterns are ready, from its guard on: the outputs that it writes, and only then the guard, and then the actions.
-fn judge(b: &[u8], at: usize, a: Arity, full: &[u8], env: &Env) -> Judgement
+// Whether a rule whose patterns are ready fires, from its guard on: the outputs that it writes, and only then the guard, and then the actions.
+fn judge(b: &[u8], at: usize, a: Arity, full: &[u8], env: &Env) -> Result<bool, Fault>
     requires { AtGuard a b.now at env.now.types }
     ensures { result ≡ judged_as (judge_of (named_by env.now) full.now (rule_read (read_rule a.ins a.outs a.vars b.now)) 0) }
 {
     let outs = expressions::skip(b, at);
-    let Outs::Open { next: sets } = matching::outs_open(b, outs, a.outs, full) else {
-        return Judgement::Quiet;
+    let Some(sets) = matching::outs_open(b, outs, a.outs, full) else {
+        return Ok(false);
     };
-    match actions::value(b, at, env) {
-        Outcome::Fault { number } => Judgement::Faulty { number },
-        Outcome::Value { ty: _, value } => {
-            if !is_true(value) {
-                return Judgement::Quiet;
-            }
-            chosen(b, outs, sets, a, env)
-        }
+    let guard = actions::value(b, at, env)?;
+    if !is_true(guard.value) {
+        return Ok(false);
     }
+    chosen(b, outs, sets, a, env)
 }
 
-// A rule whose patterns are ready: the types that its expressions may name, then its judgement from its guard on.
-fn settle(
-    b: &[u8],
-    at: usize,
-    a: Arity,
-    ins: &[u8],
-    vars: &[u8],
-    full: &[u8],
-    vals: &[i64; 8],
-) -> Judgement
-    requires { Settled a ins.now vars.now b.now at vals.now }
-    ensures { result ≡ judged_as (judge_of (view_env (types_in ins.now a.ins) (types_in vars.now a.vars) vals.now (rule_read (read_rule a.ins a.outs a.vars b.now))) full.now (rule_read (read_rule a.ins a.outs a.vars b.now)) 0) }
+// Whether a rule whose patterns are ready fires: the types that its expressions may name, then its judgement from its guard on.
+fn settle(b: &[u8], at: usize, scene: &Scene) -> Result<bool, Fault>
+    requires { Settled scene.now.arity scene.now.ins.now scene.now.vars.now b.now at scene.now.vals.now }
+    ensures { result ≡ judged_as (settled scene.now b.now) }
 {
     let env = Env {
-        types: typing::scope(b, ins, vars, a),
-        vals: *vals,
+        types: typing::scope(b, scene.ins, scene.vars, scene.arity),
+        vals: *scene.vals,
     };
-    judge(b, at, a, full, &env)
+    judge(b, at, scene.arity, scene.full, &env)
 }
 
 // Where the output actions begin in the body of a rule, which has its parts: behind the patterns and the guard.
@@ -128,46 +108,31 @@ pub fn actions_at(b: &[u8], a: Arity) -> usize
     expressions::skip(b, at)
 }
 
-// A box's rules in the file's order, up to the first that is fireable or that faults. The guard is worked out only after the rest holds.
-pub fn search(
-    net: &[u8],
-    table: &[u16],
-    c: Counts,
-    k: ProcessId,
-    count: usize,
-    a: Arity,
-    ins: &[u8],
-    vars: &[u8],
-    heads: &[u8],
-    full: &[u8],
-    vals: &[i64; 8],
-) -> Tried
-    requires rules { Rules net.now table.now c k.0 count a ins.now vars.now }
-    requires smalls { Smalls vals.now }
-    ensures { result ≡ mark_as (first (λ r. try_on (types_in ins.now a.ins) (types_in vars.now a.vars) heads.now full.now vals.now (rule_read (read_rule a.ins a.outs a.vars (body_at net.now (rule_at (index_in table.now c) k.0 r)))) r) (up_from 0 count)) }
+// The first of so many of a box's rules, in the file's order, that is fireable, up to one that faults. The guard is worked out only after the rest holds.
+pub fn search(net: &Net, k: ProcessId, count: usize, scene: &Scene) -> Result<Option<RuleId>, Fault>
+    requires rules { Rules net.now.file.now net.now.table.now net.now.counts k.0 count scene.now.arity scene.now.ins.now scene.now.vars.now }
+    requires smalls { Smalls scene.now.vals.now }
+    ensures { result ≡ mark_as (first (trial net.now scene.now k.0) (up_from 0 count)) }
 {
-    let patterns = a.ins + a.vars;
+    let patterns = scene.arity.ins + scene.arity.vars;
     let mut untried = 0..count;
-    'rules: loop {
+    let found = 'rules: loop {
         let Some(r) = untried.next() else {
-            break Tried::Quiet;
+            break None;
         };
-        let body = lookup::rule_body(net, table, c, k, RuleId(r as u8));
+        let rule = RuleId(r as u8);
+        let body = net.rule_body(k, rule);
         let mut at = 0;
         for j in 0..patterns {
-            if !port_ready(body, at, j, a.ins, heads, vals) {
+            if !matching::pattern_ready(body, at, token_at(scene, j)) {
                 continue 'rules;
             }
             at += rules::pattern_size(octets::byte_at(body, at));
         }
-        match settle(body, at, a, ins, vars, full, vals) {
-            Judgement::Fires => {
-                break Tried::Fires {
-                    rule: RuleId(r as u8),
-                };
-            }
-            Judgement::Faulty { number } => break Tried::Faulty { number },
-            Judgement::Quiet => {}
+        let fires = settle(body, at, scene)?;
+        if fires {
+            break Some(rule);
         }
-    }
+    };
+    Ok(found)
 }

@@ -1,32 +1,31 @@
 use mathlib.Core.Path.{sym, ◌∙◌}
+use Rattle.std.proofs.lemmas.Result.{err_from_is_err_and}
 use Rattle.trying.proofs.Judging.{outs_ready, sets_ready, chosen_outs, chosen_sets, chosen_fires}
 use Rattle.trying.proofs.chosen.Goals as goal
 
-pub actions_fault-f-requires : goal.actions_fault-f-requires
-actions_fault-f-requires c =
-    let h = c.requires in
-    let w = h.work in
-    let r = outs_ready _ _ _ w _ h.outs in
-    record { n_bound = w.outs; b_value = r.limits; b_value_2 = r.typed }
+pub actions_fault-requires : goal.actions_fault-requires
+actions_fault-requires c =
+    let r = outs_ready _ _ _ c.requires.work _ c.requires.outs in
+    record { n_bound = c.requires.work.outs; b_value = r.limits; b_value_2 = r.typed }
 
-pub returns-in-Fault : goal.returns-in-Fault
-returns-in-Fault c =
+pub returns-in_err-actions_fault : goal.returns-in_err-actions_fault
+returns-in_err-actions_fault c =
     let h = c.requires in
-    chosen_outs _ _ _ h.work _ _ _ h.outs h.sets _ (sym c.in-Fault.is ∙ c.actions_fault-f.ensures)
+    let e = err_from_is_err_and c.from_residual.result c.from_residual.ensures.1 in
+    rw (e.1, e.2) (chosen_outs _ _ _ h.work _ _ _ h.outs h.sets _ (sym c.in_err-actions_fault.was ∙ c.actions_fault.ensures))
 
-pub actions_fault-g-requires : goal.actions_fault-g-requires
-actions_fault-g-requires c =
-    let h = c.requires in
-    let w = h.work in
-    let r = sets_ready _ _ _ w _ h.sets in
-    record { n_bound = w.vars; b_value = r.limits; b_value_2 = r.typed }
+pub actions_fault-requires-2 : goal.actions_fault-requires-2
+actions_fault-requires-2 c =
+    let r = sets_ready _ _ _ c.requires.work _ c.requires.sets in
+    record { n_bound = c.requires.work.vars; b_value = r.limits; b_value_2 = r.typed }
 
-pub returns-in-Fault-g : goal.returns-in-Fault-g
-returns-in-Fault-g c =
+pub returns-in_err-actions_fault-2 : goal.returns-in_err-actions_fault-2
+returns-in_err-actions_fault-2 c =
     let h = c.requires in
-    chosen_sets _ _ _ h.work _ _ _ h.outs h.sets _ (sym c.in_default.is ∙ c.actions_fault-f.ensures) (sym c.in-Fault-g.is ∙ c.actions_fault-g.ensures)
+    let e = err_from_is_err_and c.from_residual-in_err-actions_fault-2.result c.from_residual-in_err-actions_fault-2.ensures.1 in
+    rw (e.1, e.2) (chosen_sets _ _ _ h.work _ _ _ h.outs h.sets _ (sym c.in_ok-actions_fault.was ∙ c.actions_fault.ensures) (sym c.in_err-actions_fault-2.was ∙ c.actions_fault-2.ensures))
 
 pub returns : goal.returns
 returns c =
     let h = c.requires in
-    chosen_fires _ _ _ h.work _ _ _ h.outs h.sets (sym c.in_default.is ∙ c.actions_fault-f.ensures) (sym c.in_default-g.is ∙ c.actions_fault-g.ensures)
+    chosen_fires _ _ _ h.work _ _ _ h.outs h.sets (sym c.in_ok-actions_fault.was ∙ c.actions_fault.ensures) (sym c.in_ok-actions_fault-2.was ∙ c.actions_fault-2.ensures)
