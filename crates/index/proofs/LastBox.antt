@@ -1,5 +1,5 @@
 -- A rule of the last box: the shape of that box, read off the table. Assumes nothing.
-use Prim.Native.Nat.{ℕ, ◌+◌, ◌-◌, ◌*◌, ◌≤◌, ◌<◌}
+use Prim.Native.Nat.{ℕ, ◌+◌, ◌-◌, ◌*◌, ◌≤◌}
 use mathlib.Core.Path.{◌≡◌, refl, ap, ◌∙◌, sym, subst}
 use mathlib.Core.List.{List}
 use lib.ListN.{length, get_or}
@@ -17,6 +17,10 @@ use Rattle.model.proofs.Tests.{both}
 use Rattle.model.proofs.Decoded.{Each, GoodType, length-tabulate, get_d_tabulate, shape_ins, shape_vars}
 use Rattle.typing.specs.Fits.{Precise}
 use Rattle.table.specs.declared.Counts.{Counts}
+use Rattle.std.specs.Prelude.{Result, Ok, Err, MatchResult, IsErrAnd, ⊤}
+use Rattle.std.proofs.lemmas.Result.{err_from_is_err_and}
+use Rattle.model.specs.declared.Reason.{Reason}
+use Rattle.model.specs.Reasons.{reason_number, fault_said}
 use Rattle.typing.specs.declared.RuleFault.{RuleFault}
 use Rattle.typing.specs.RuleFault.{rule_fault, number_of}
 use Rattle.typing.proofs.Faults.{number_is}
@@ -25,6 +29,12 @@ use Rattle.model.proofs.Accepted.{Valid}
 use Rattle.table.proofs.Regions.{region_at}
 use Rattle.table.proofs.Fields.{case_3}
 use Rattle.table.proofs.Lengths.{boxes_n, box_fits}
+
+-- what `map_err` makes of a rule's fault, by a closure that keeps the reason
+pub reason_said : (q : Result ⊤ RuleFault) (r : Result ⊤ Reason) (Q : RuleFault → Reason → Type 0) → ((f : RuleFault) (x : Reason) → Q f x → x ≡ f.reason) → MatchResult q (λ x. r ≡ Ok x) (λ f. IsErrAnd r (Q f)) → fault_said r ≡ number_of q
+unfolding fault_said number_of
+reason_said (Ok u) r Q g h = rw h refl
+reason_said (Err f) r Q g h = let p = err_from_is_err_and r h in rw (p.1) (ap reason_number (g f p.0 p.2))
 
 -- types that are good, laid out in bytes
 types_precise : (l : List ℕ) (n : ℕ) → Each GoodType no_type (types_in l n) → Precise l n
@@ -57,7 +67,7 @@ module _ (s t : List ℕ) (c : Counts) (room : 656 ≤ length t) (w : Within c) 
   unfolding index_in
   last_case b = case_3 s (index_in t c) 3 b refl own ∙ sym (number_is (shape_at s (index_in t c) (length (index_in t c).boxes - 1)) c.inbox b)
 
-  pub rule_is_lem : (sh : Shape) (r : RuleFault) (b : List ℕ) → sh ≡ shape_of (wires_in s t c.wires) (box_of (body_at s o)) → r ≡ rule_fault sh c.inbox b → number_of r ≡ field_fault s (index_in t c) 3 b
+  pub rule_is_lem : (sh : Shape) (r : Result ⊤ RuleFault) (b : List ℕ) → sh ≡ shape_of (wires_in s t c.wires) (box_of (body_at s o)) → r ≡ rule_fault sh c.inbox b → number_of r ≡ field_fault s (index_in t c) 3 b
   rule_is_lem sh r b d f =
       let n = boxes_n t c room w in
       let z : c.boxes - 1 ≡ length (index_in t c).boxes - 1 = omega arith in

@@ -9,9 +9,8 @@ use Rattle.model.specs.NetworkFile.{fault_of, wire_form, wire_limits, wire_type_
 use Rattle.table.specs.declared.Counts.{Counts}
 use Rattle.table.specs.Table.{index_in, Within, Noted}
 use Rattle.model.proofs.Accepted.{Valid, valid_kept}
-use Rattle.model.specs.declared.Field.TheVariants.{At}
-use Rattle.model.specs.Bytes.{stretch}
-use Rattle.model.specs.NetworkFile.{field_at}
+use Rattle.model.specs.declared.Field.{Field}
+use Rattle.index.specs.Verdicts.{Sound}
 use Rattle.table.proofs.Fields.{late_1, late_2, late_3, late_4, unknown, case_1, case_2, case_4, case_5}
 use Rattle.table.proofs.Lengths.{wires_n, boxes_n, inputs_n, outputs_n}
 
@@ -58,6 +57,6 @@ module _ (s t : List ℕ) (c : Counts) (tag : ℕ) (b : List ℕ) where
     unfolding index_in
     output_of e d = d ∙ (λ i. fault_of (output_form (sym (wires_n t c room w) i) b) (output_limits (sym (outputs_n t c room w) i) b) true) ∙ sym (case_5 s (index_in t c) tag b e)
 
--- a field that was noted keeps what holds
-pub still_sound : (s t t' : List ℕ) (c r : Counts) (at tag start len : ℕ) → Valid s (index_in t c) → field_at s at ≡ At tag start len → field_fault s (index_in t c) tag (stretch s start len) ≡ 0 → Noted t c tag at t' r → Valid s (index_in t' r)
-still_sound s t t' c r at tag start len S e d n = rw n.index (valid_kept s (index_in t c) tag start len at S e d)
+-- a sound field that was noted keeps what holds
+pub still_sound : (s t t' : List ℕ) (c r : Counts) (at : ℕ) (f : Field) → Valid s (index_in t c) → Sound s (index_in t c) at f → Noted t c f.tag at t' r → Valid s (index_in t' r)
+still_sound s t t' c r at f S e n = rw n.index (valid_kept s (index_in t c) f at S e.there e.right)

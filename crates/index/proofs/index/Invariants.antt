@@ -1,13 +1,15 @@
-use Rattle.index.proofs.Going.{Going}
+use Prim.Native.Nat.{◌-◌}
+use lib.ListN.{length}
 use Rattle.model.proofs.Accepted.{Valid}
 use Rattle.table.specs.Table.{index_in}
-use lib.ListN.{length}
-use mathlib.Core.Path.{◌≡◌}
-use Prim.Native.Nat.{◌-◌}
+use Rattle.index.proofs.Going.{Going}
 use Rattle.index.proofs.index.Given as goal
 
 abbrev pub invariant-loop-at : goal.invariant-loop-at
-invariant-loop-at l = Going l.net l.tab l.c l.at × (length l.tab ≡ length l.initial.tab) × Valid l.net (index_in l.tab l.c)
+invariant-loop-at l = record {
+  going : Going l.net l.tab l.c l.at;
+  valid : Valid l.net (index_in l.tab l.c);
+}
 
 abbrev pub decreases-loop-at : goal.decreases-loop-at
 decreases-loop-at l = length l.net - l.at
