@@ -1,29 +1,19 @@
 -- Counts that stop at 2. Assumes nothing.
 use Prim.Native.Nat.{ℕ, zero, suc, ◌+◌, ◌≤◌, ◌<◌, min}
-use mathlib.Core.Path.{◌≡◌, refl, ap, ◌∙◌, sym}
+use mathlib.Core.Path.{◌≡◌, refl, ap, ◌∙◌, sym, subst}
 use mathlib.Core.List.{List, [], ◌∷◌, ◌++◌}
 use mathlib.Core.Bool.{Bool, true, false, cond}
-use lib.ListN.{length, get_or, drop, set, length-set, drop_of_length-le, replicate, get_or-replicate, length-replicate}
-use lib.Seq.{drop-cons, set_out, set-get_or, get_or-set_same, get_or-set_other}
+use lib.ListN.{length, get_or, drop, length-set, drop_of_length-le, replicate, get_or-replicate, length-replicate}
+use lib.Seq.{drop-cons, get_or-set_same, get_or-set_other}
 use lib.Dec.{ltb, eqb}
-use borrow.Author.Tests.{lt-ltb, le-ltb, eq-eqb, ne_eqb, eqb-true, eqb-false, ltb-true, ltb-false}
+use borrow.Author.Tests.{ne_eqb, eqb-true, eqb-false, ltb-true, ltb-false}
 use native.Mathlib.Numerals.{add-one}
 use native.Mathlib.Nat.{zero-add}
 use native.Mathlib.Omega.{arith}
 use Rattle.model.specs.NetworkFile.{hit, count, lowest_from}
-use Rattle.ports.specs.Ports.{ports_at, bump, touched, tally_of, fits_in}
-
-pub touch_out : (t : List ℕ) (w : ℕ) → length t ≤ w → t ≡ touched t w
-unfolding touched
-touch_out t w h = sym (set_out t w (bump (get_or t w 0)) h)
-
-pub touch_full : (t : List ℕ) (w k : ℕ) → k ≡ w → 2 ≤ get_or t k 0 → t ≡ touched t w
-unfolding touched bump
-touch_full t w k e h = sym (rw (← e, le-ltb (get_or t k 0) 2 h) (set-get_or t k 0))
-
-pub touch_more : (t : List ℕ) (w k : ℕ) → k ≡ w → get_or t k 0 < 2 → set t k (get_or t k 0 + 1) ≡ touched t w
-unfolding touched bump
-touch_more t w k e h = rw (← e, lt-ltb (get_or t k 0) 2 h)
+use Rattle.std.specs.Prelude.{Option, Some, None}
+use Rattle.std.specs.Option.{MatchOption, unwrap_or}
+use Rattle.ports.specs.Ports.{ports_at, bump, touched, tally_of}
 
 pub length-touched : (t : List ℕ) (w : ℕ) → length (touched t w) ≡ length t
 unfolding touched
@@ -51,32 +41,26 @@ pub ports_end : (t : List ℕ) (f : ℕ → List ℕ) (os : List ℕ) (b : ℕ) 
 unfolding ports_at tally_of
 ports_end t f os b h = rw (drop_of_length-le os h)
 
--- the lowest that fails, a turn at a time
-module _ (f : ℕ → Bool) (w m : ℕ) where
-  pub low_more : (j : ℕ) → m ≡ j + 1 → f w ≡ true → lowest_from f w m ≡ lowest_from f (w + 1) j
-  unfolding lowest_from
-  low_more j e d = rw (e, add-one j, add-one w) (rw d)
+-- the lowest that fails: all before it hold
+lowest_is : (f : ℕ → Bool) (w m i : ℕ) → w ≤ i → i ≤ w + m → ((k : ℕ) → w ≤ k → k < i → f k ≡ true) → (i < w + m → f i ≡ false) → i ≡ lowest_from f w m
+unfolding lowest_from
+lowest_is f w zero i h g before here = omega arith
+lowest_is f w (suc m) i h g before here =
+    by_place (λ l. lowest_is f (suc w) m i (omega arith) (omega arith) (λ k p q. before k (omega arith) q) (λ p. here (omega arith))) (ltb w i) refl
+  where
+    by_place : (w < i → i ≡ lowest_from f (suc w) m) → (b : Bool) → ltb w i ≡ b → i ≡ cond (f w) (lowest_from f (suc w) m) w
+    by_place more true e = let l = ltb-true w i e in rw (before w (omega arith) l) (more l)
+    by_place more false e =
+        let l = ltb-false w i e in
+        let q : i ≡ w = omega arith in
+        let d : f w ≡ false = subst (λ (k : ℕ). f k ≡ false) q (here (omega arith)) in
+        rw d q
 
-  pub low_here : (j : ℕ) → m ≡ j + 1 → f w ≡ false → lowest_from f w m ≡ w
-  unfolding lowest_from
-  low_here j e d = rw (e, add-one j) (rw d)
-
-  pub low_end : m ≡ 0 → lowest_from f w m ≡ w
-  unfolding lowest_from
-  low_end e = rw e
-
-module _ (rs ws : List ℕ) (w : ℕ) where
-  pub fits_both : get_or rs w 0 ≡ 1 → get_or ws w 0 ≡ 1 → fits_in rs ws w ≡ true
-  unfolding fits_in
-  fits_both a b = rw (eq-eqb (get_or rs w 0) 1 a, eq-eqb (get_or ws w 0) 1 b)
-
-  pub fits_not_read : (get_or rs w 0 ≡ 1 → ⊥) → fits_in rs ws w ≡ false
-  unfolding fits_in
-  fits_not_read a = rw (ne_eqb (get_or rs w 0) 1 a)
-
-  pub fits_not_written : get_or rs w 0 ≡ 1 → (get_or ws w 0 ≡ 1 → ⊥) → fits_in rs ws w ≡ false
-  unfolding fits_in
-  fits_not_written a b = rw (eq-eqb (get_or rs w 0) 1 a, ne_eqb (get_or ws w 0) 1 b)
+-- the answer of `find` over 0 .. n, and n where there is none
+pub lowest_found : (f : ℕ → Bool) (n : ℕ) (r : Option ℕ) → MatchOption r ((k : ℕ) → 0 ≤ k → k < n → f k ≡ true) (λ i. (0 ≤ i) × (i < n) × (f i ≡ false) × ((k : ℕ) → 0 ≤ k → k < i → f k ≡ true)) →
+    unwrap_or r n ≡ lowest_from f 0 n
+lowest_found f n None h = lowest_is f 0 n n (omega arith) (omega arith) h (λ p. absurd (omega arith))
+lowest_found f n (Some i) (p, q, d, b) = lowest_is f 0 n i p (omega arith) b (λ p. d)
 
 pub lowest_same : (f g : ℕ → Bool) (w m n : ℕ) → ((k : ℕ) → k < n → f k ≡ g k) → w + m ≤ n → lowest_from f w m ≡ lowest_from g w m
 unfolding lowest_from

@@ -2,21 +2,25 @@
 use Prim.Native.Nat.{ℕ, suc, ◌+◌, ◌≤◌, ◌<◌}
 use mathlib.Core.Path.{◌≡◌, refl, ap, ◌∙◌, sym}
 use mathlib.Core.List.{List, [], ◌∷◌, ◌++◌, map, append_assoc}
-use mathlib.Core.Bool.{Bool, true, false, ◌&&◌}
-use lib.ListN.{length, get_or, drop, replicate, length-map}
-use lib.Dec.{eqb}
+use mathlib.Core.Bool.{true, false, ◌&&◌}
+use lib.ListN.{length, get_or, replicate, length-map}
+use lib.Dec.{eqb, ltb}
 use native.Mathlib.Omega.{arith}
-use Rattle.model.specs.Bytes.{stretch}
+use lib.Seq.{drop-cons}
+use borrow.Author.Tests.{eqb-true}
+use Rattle.model.specs.Bytes.{two_at, stretch}
 use Rattle.model.specs.Network.{Proc, box, ins_of, outs_of}
-use Rattle.model.specs.NetworkFile.{Index, tabulate, body_at, box_of, wire_of, wires_of, box_at, input_at, output_at, net_of, count, ports, ports_fit, lowest_from, odd_wire}
+use Rattle.model.specs.NetworkFile.{Index, tabulate, input_form, output_form, body_at, box_of, wire_of, wires_of, box_at, input_at, output_at, net_of, count, ports, ports_fit, lowest_from, odd_wire}
 use Rattle.shapes.specs.Shapes.{BoxFits}
 use Rattle.table.specs.declared.Counts.{Counts}
 use Rattle.table.specs.Table.{region, index_in, Within}
 use Rattle.model.proofs.Accepted.{Valid}
+use Rattle.model.proofs.Tests.{and_left}
+use Rattle.model.proofs.Decoded.{length-stretch}
 use Rattle.table.proofs.Regions.{region_at, region-length}
 use Rattle.table.proofs.Lengths.{box_fits, boxes_n}
-use Rattle.ports.specs.Ports.{ports_at, box_ports, end_port, touched, tally_of, fits_in, BoxesFit}
-use Rattle.ports.proofs.Counts.{tally_append, ports_more, counted, lowest_same}
+use Rattle.ports.specs.Ports.{ports_at, box_ports, end_port, tally_of, fits_in, BoxesFit}
+use Rattle.ports.proofs.Counts.{tally_append, counted, lowest_same}
 
 ports-append : (f : Proc → List ℕ) (xs ys : List Proc) → ports f (xs ++ ys) ≡ ports f xs ++ ports f ys
 unfolding ports
@@ -85,28 +89,48 @@ module _ (s t : List ℕ) (c : Counts) (w : Within c) (room : 656 ≤ length t) 
       lowest_same (fits_in rs ws) (ports_fit (net_of s x []).procs) 0 c.wires 64 (λ k h. λ i. counts_of r0 rs _ _ _ a b (readers s x) k h i && counts_of w0 ws _ _ _ d e (writers s x) k h i) (omega arith)
       ∙ ap (lowest_from (ports_fit (net_of s x []).procs) 0) (sym n)
 
-  pub boxes_fit : Valid s (index_in t c) → BoxesFit s t c.boxes
+  boxes_fit : Valid s (index_in t c) → BoxesFit s t c.boxes
   unfolding index_in
   boxes_fit S = record { each = λ k h. let n = boxes_n t c room w in rw (← region_at 64 c.boxes t k h) (box_fits s _ k _ (S.boxes k (omega arith))) }
 
+  -- what the fields at the offsets of boxes, inputs and outputs give
+  module _ (S : Valid s (index_in t c)) (os : List ℕ) where
+    pub box_at_fits : os ≡ region 64 c.boxes t → (k : ℕ) → k < length os → BoxFits s (get_or os k 0)
+    box_at_fits e k h =
+        let n : k < c.boxes = omega (arith, ap length e, region-length 64 c.boxes t (omega arith)) in
+        rw (e, region_at 64 c.boxes t k n) ((boxes_fit S).each k n)
+
+    pub input_inside : os ≡ region 640 c.inputs t → (k : ℕ) → k < length os → get_or os k 0 + 4 ≤ length s
+    unfolding index_in input_form body_at
+    input_inside e k h =
+        let n : k < length (region 640 c.inputs t) = omega (arith, ap length e) in
+        let o : ℕ = get_or (region 640 c.inputs t) k 0 in
+        let q = S.inputs k n in
+        let b : List ℕ = stretch s (o + 3) (two_at s (o + 1)) in
+        let l = eqb-true (length b) 1 (and_left (eqb (length b) 1) (ltb (get_or b 0 0) (length (region 0 c.wires t))) q.passes.form) in
+        rw e (omega (arith, l, q.in-file.whole, length-stretch s (o + 3) (two_at s (o + 1)) q.in-file.whole))
+
+    pub output_inside : os ≡ region 648 c.outputs t → (k : ℕ) → k < length os → get_or os k 0 + 4 ≤ length s
+    unfolding index_in output_form body_at
+    output_inside e k h =
+        let n : k < length (region 648 c.outputs t) = omega (arith, ap length e) in
+        let o : ℕ = get_or (region 648 c.outputs t) k 0 in
+        let q = S.outputs k n in
+        let b : List ℕ = stretch s (o + 3) (two_at s (o + 1)) in
+        let l = eqb-true (length b) 3 (and_left (eqb (length b) 3) (ltb (get_or b 0 0) (length (region 0 c.wires t))) q.passes.form) in
+        rw e (omega (arith, l, q.in-file.whole, length-stretch s (o + 3) (two_at s (o + 1)) q.in-file.whole))
+
+-- the wire of an input or output, read as a part
+pub end_is : (s r : List ℕ) (at : ℕ) → at + 4 ≤ length s → r ≡ stretch s (at + 3) 1 → r ≡ end_port s at
+unfolding stretch end_port
+end_is s r at h e = e ∙ rw (drop-cons s (at + 3) 0 (omega arith)) refl
+
 -- the ports of one box
-module _ (s b r : List ℕ) (at i n : ℕ) (outs : Bool) (e : b ≡ body_at s at) (f : i ≡ get_or b 0 0) where
-  pub outs_are : outs ≡ true → n ≡ get_or b 1 0 → r ≡ stretch b (3 + i) n → r ≡ box_ports outs s at
+module _ (s b r : List ℕ) (at i n : ℕ) (e : b ≡ body_at s at) (f : i ≡ get_or b 0 0) where
+  pub outs_are : n ≡ get_or b 1 0 → r ≡ stretch b (3 + i) n → r ≡ box_ports true s at
   unfolding box_ports box_of
-  outs_are d g h = rw (d, ← e, ← f, ← g) h
+  outs_are g h = rw (← e, ← f, ← g) h
 
-  pub ins_are : outs ≡ false → r ≡ stretch b 3 i → r ≡ box_ports outs s at
-  unfolding box_ports box_of
-  ins_are d h = rw (d, ← e, ← f) h
-
--- one turn of the loops over boxes, and over inputs or outputs
-module _ (s t os : List ℕ) (k o : ℕ) (e : o ≡ get_or os k 0) (h : k < length os) where
-  pub box_more : (outs : Bool) (ps t' : List ℕ) → ps ≡ box_ports outs s o → t' ≡ tally_of t ps → tally_of t' (ports_at (box_ports outs s) (drop (k + 1) os)) ≡ tally_of t (ports_at (box_ports outs s) (drop k os))
-  box_more outs ps t' d f = ap (λ (l : List ℕ). tally_of l (ports_at (box_ports outs s) (drop (k + 1) os))) (f ∙ ap (tally_of t) d) ∙ sym (ports_more t (box_ports outs s) os k o e h)
-
-  pub end_more : (w : ℕ) (t' : List ℕ) → w ≡ get_or s (o + 3) 0 → t' ≡ touched t w → tally_of t' (ports_at (end_port s) (drop (k + 1) os)) ≡ tally_of t (ports_at (end_port s) (drop k os))
-  unfolding end_port tally_of
-  end_more w t' d f = ap (λ (l : List ℕ). tally_of l (ports_at (end_port s) (drop (k + 1) os))) (f ∙ ap (touched t) d) ∙ sym (ports_more t (end_port s) os k o e h)
-
-pub fits_at_lem : (s t : List ℕ) (n k o : ℕ) → BoxesFit s t n → o ≡ get_or t (64 + k) 0 → k < n → BoxFits s o
-fits_at_lem s t n k o f e h = rw e (f.each k h)
+pub ins_are : (s b r : List ℕ) (at i : ℕ) → b ≡ body_at s at → i ≡ get_or b 0 0 → r ≡ stretch b 3 i → r ≡ box_ports false s at
+unfolding box_ports box_of
+ins_are s b r at i e f h = rw (← e, ← f) h
