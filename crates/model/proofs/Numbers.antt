@@ -1,7 +1,6 @@
 -- The only fault is a zero divisor.
 -- Assumes nothing.
 use mathlib.Core.Path.{◌≡◌, refl}
-use Prim.Native.Nat.{ℕ}
 use Rattle.model.specs.declared.Fault.{Fault}
 use Rattle.model.specs.declared.Fault.TheVariants.{ZeroDivisor}
 use Rattle.model.specs.Reasons.{fault_number}

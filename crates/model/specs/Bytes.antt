@@ -1,6 +1,6 @@
 -- Bytes and the numbers that they hold, high byte first.
 -- Assumes nothing.
-use Rattle.std.specs.Prelude.{ℕ, suc, ◌+◌, ◌-◌, ◌*◌, ◌/◌, ◌%◌, ◌^◌, Bool, true, false, cond, List, [], ◌∷◌, get_or, take, drop, length, ltb, leb, ℤ, pos, negsuc, ◌-ℤ◌}
+use Rattle.std.specs.Prelude.{ℕ, suc, ◌+◌, ◌-◌, ◌*◌, ◌/◌, ◌%◌, ◌^◌, cond, List, [], ◌∷◌, get_or, take, drop, ltb, ℤ, pos, negsuc, ◌-ℤ◌}
 
 -- z modulo m, at least 0
 unfoldable pub mod_z : ℤ → ℕ → ℕ

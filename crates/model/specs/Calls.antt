@@ -1,8 +1,7 @@
 -- The public calls: from all arguments to the answer and to the lent bytes afterwards. Checks go 2 for length, 2 for budget, then field by
 -- field, then 3, 5, 6 for the state, 7 (not at a load), 6 for the output file, 9, 8. A refusal changes no lent byte.
 -- Assumes nothing.
-use Rattle.std.specs.Prelude.{ℕ, zero, suc, ◌+◌, ◌-◌, ◌*◌, Bool, true, false, not, cond, ◌&&◌, ◌||◌, List, [], ◌∷◌, ◌++◌, leb, ltb, eqb, get_or, drop, length, replicate, Result, Ok, Err, ⊤}
-use Rattle.model.specs.declared.Token.{Token}
+use Rattle.std.specs.Prelude.{ℕ, Bool, true, false, cond, List, [], ◌++◌, leb, drop, length, replicate, Result, Ok, Err, ⊤}
 use Rattle.model.specs.declared.Refusal.{Refusal}
 use Rattle.model.specs.declared.Ending.{Ending}
 use Rattle.model.specs.declared.Ending.TheVariants as ending
@@ -11,7 +10,7 @@ use Rattle.model.specs.declared.Turn.{Turn}
 use Rattle.model.specs.declared.Turn.TheVariants as turn
 use Rattle.model.specs.Reasons.{fault_number, reason_number}
 use Rattle.model.specs.Network.{Net, State, loaded}
-use Rattle.model.specs.NetworkFile.{Index, Verdict, good, refuse, next, or_refuse, by_verdict, network, net_of, Stretch, rule_stretch}
+use Rattle.model.specs.NetworkFile.{Index, Verdict, good, next, or_refuse, by_verdict, network, net_of, Stretch, rule_stretch}
 use Rattle.model.specs.States.{token_file, input_types, bytes_of, state_size, state_fits, state_in, output_file}
 use Rattle.model.specs.Cycles as C
 

@@ -1,12 +1,12 @@
 -- One cycle: marking, firing, a cycle in an order, a run (manual chapter 7, with the choices of document 01).
 -- Assumes nothing.
-use Rattle.std.specs.Prelude.{ℕ, zero, suc, ◌+◌, ◌-◌, ◌*◌, ◌/◌, ◌%◌, ◌^◌, Bool, true, false, not, cond, ◌&&◌, ◌||◌, List, [], ◌∷◌, ◌++◌, map, leb, ltb, eqb, get_or, set, drop, length, ℤ, pos, Option, Some, None, Ok, Err}
+use Rattle.std.specs.Prelude.{ℕ, zero, suc, ◌+◌, ◌-◌, ◌/◌, ◌%◌, ◌^◌, Bool, true, false, not, ◌&&◌, ◌||◌, List, [], ◌∷◌, ◌++◌, map, leb, ltb, eqb, get_or, set, drop, length, ℤ, pos, Option, Some, None, Ok, Err}
 use Rattle.model.specs.declared.Token.{Token}
 use Rattle.model.specs.declared.Fault.{Fault}
 use Rattle.model.specs.declared.Ending.{Ending}
 use Rattle.model.specs.declared.Ending.TheVariants as ending
 use Rattle.model.specs.Values.{eq_z, is_true, Outcome}
-use Rattle.model.specs.Expressions.{Exp, Env, value_of}
+use Rattle.model.specs.Expressions.{Env, value_of}
 use Rattle.model.specs.Rules.{Pattern, ignore, any, only, Action, nothing, bare, send, Rule, scope_of}
 use Rattle.model.specs.Network.{Box, Proc, box, input, output, Net, Own, vars, taken, got, State, no_token, capacity, proc, rule, queue, own, vars_of, taken_of, got_of, ins_of, outs_of, shape_of}
 

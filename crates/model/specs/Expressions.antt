@@ -1,6 +1,6 @@
 -- Expressions: their form in the file, size, depth, type and value.
 -- Assumes nothing.
-use Rattle.std.specs.Prelude.{ℕ, zero, suc, ◌+◌, ◌-◌, ◌*◌, max, Bool, true, false, not, cond, ◌&&◌, ◌||◌, List, [], ◌∷◌, leb, ltb, eqb, get_or, drop, length, ℤ, pos, Ok, Err}
+use Rattle.std.specs.Prelude.{ℕ, zero, suc, ◌+◌, max, Bool, true, false, not, cond, ◌&&◌, ◌||◌, List, [], ◌∷◌, leb, ltb, eqb, get_or, drop, length, ℤ, pos, Ok, Err}
 use Rattle.model.specs.declared.Ty.{Ty}
 use Rattle.model.specs.Bytes.{value_at}
 use Rattle.model.specs.Values.{bool, no_type, is_bool, is_number, is_plain, same_type, in_precision, within, wrap, is_true, Outcome, gives, apply, apply_one}

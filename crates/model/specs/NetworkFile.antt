@@ -1,7 +1,6 @@
 -- The network file: its fields in order, form, limits and types of each, the ports, and the network that a good file describes.
 -- Assumes nothing.
-use Rattle.std.specs.Prelude.{ℕ, zero, suc, ◌+◌, ◌-◌, ◌*◌, Bool, true, false, not, cond, ◌&&◌, ◌||◌, List, [], ◌∷◌, ◌++◌, map, leb, ltb, eqb, get_or, drop, take, length, Option, Some, None}
-use Rattle.model.specs.declared.Ty.{Ty}
+use Rattle.std.specs.Prelude.{ℕ, zero, suc, ◌+◌, ◌-◌, ◌*◌, Bool, true, false, cond, ◌&&◌, List, [], ◌∷◌, ◌++◌, map, leb, ltb, eqb, get_or, length, Option, Some, None}
 use Rattle.model.specs.declared.Token.{Token}
 use Rattle.model.specs.declared.Field.{Field}
 use Rattle.model.specs.Bytes.{two_at, value_at, stretch}

@@ -1,6 +1,6 @@
 -- Demand 3: inside a cycle the order of the marked processes doesn't matter.
 -- Assumes nothing.
-use Rattle.std.specs.Prelude.{ℕ, zero, suc, ◌+◌, ◌≤◌, ◌<◌, ◌≡◌, ◌≢◌, Bool, true, false, List, [], ◌∷◌, ◌++◌, eqb, length}
+use Rattle.std.specs.Prelude.{ℕ, ◌≤◌, ◌≡◌, ◌≢◌, Bool, true, false, List, [], ◌∷◌, ◌++◌, eqb, length}
 use Rattle.model.specs.declared.Token.{Token}
 use Rattle.model.specs.declared.Fault.{Fault}
 use Rattle.model.specs.Network.{Net, State, capacity, queue, loaded}

@@ -1,14 +1,14 @@
 -- Tokens in the token file, the state byte by byte, the output file.
 -- Assumes nothing.
-use Rattle.std.specs.Prelude.{ℕ, zero, suc, ◌+◌, ◌-◌, ◌*◌, ◌/◌, ◌%◌, Bool, true, false, not, cond, ◌&&◌, ◌||◌, leb, ltb, eqb, get_or, drop, take, length, replicate, ℤ, pos, Option, Some, None}
+use Rattle.std.specs.Prelude.{ℕ, zero, suc, ◌+◌, ◌-◌, ◌*◌, ◌/◌, ◌%◌, Bool, true, not, cond, ◌&&◌, ◌||◌, leb, eqb, get_or, drop, take, length, replicate, ℤ, pos, Option, Some, None}
 use mathlib.Core.List.{List, [], ◌∷◌, ◌++◌, map, zip_with}
 use Rattle.model.specs.declared.Ty.{Ty}
 use Rattle.model.specs.declared.Token.{Token}
 use Rattle.model.specs.declared.Field.{Field}
 use Rattle.model.specs.Bytes.{two_at, value_at, two_bytes, value_bytes, stretch}
-use Rattle.model.specs.Values.{is_dc, carried, within, eq_z}
+use Rattle.model.specs.Values.{carried, within, eq_z}
 use Rattle.model.specs.Rules.{tag_fits}
-use Rattle.model.specs.Network.{Wire, Variable, Box, Proc, box, input, output, Net, Own, vars, taken, got, State, wire, vars_of, taken_of, got_of}
+use Rattle.model.specs.Network.{Wire, Variable, Proc, box, input, output, Net, Own, vars, taken, got, State, wire, vars_of, taken_of, got_of}
 use Rattle.model.specs.NetworkFile.{field_at, Verdict, good, refuse, next, or_refuse}
 
 -- ── tokens ───────────────────────────────────────────────────────────────────────────────────

@@ -1,18 +1,18 @@
 -- Laws of bytes and the numbers that they hold: what is written is read back, and what is read is what was written.
 -- Assumes nothing.
-use Prim.Native.Nat.{ℕ, zero, suc, ◌+◌, ◌-◌, ◌*◌, ◌/◌, ◌%◌, ◌≤◌, ◌<◌}
+use Prim.Native.Nat.{ℕ, suc, ◌+◌, ◌-◌, ◌*◌, ◌/◌, ◌%◌, ◌≤◌, ◌<◌}
 use mathlib.Core.Path.{◌≡◌, refl, sym, ap, ◌∙◌}
 use mathlib.Core.Bool.{Bool, true, false}
 use mathlib.Core.List.{List, [], ◌∷◌, ◌++◌}
 use native.Mathlib.Omega.{arith}
 use native.Mathlib.Nat.{mod-eq_of_lt, add-sub_cancel_left}
 use lib.Dec.{T, ltb}
-use lib.IntN.{ℤ, pos, negsuc, nat_abs, ◌+ℤ◌, ◌-ℤ◌}
-use lib.Signed.{mag, lt_z, non_neg}
-use lib.ListN.{length, get_or, take, drop, set, get_or-eq_default}
+use lib.IntN.{ℤ, pos, negsuc, nat_abs, ◌-ℤ◌}
+use lib.Signed.{mag, non_neg}
+use lib.ListN.{length, get_or, take, drop}
 use lib.Seq.{get_or-drop}
 use mir.Syntax.{w32, w64}
-use mir.Val.{SFits, Fits, to_z, of_z}
+use mir.Val.{Fits, to_z, of_z}
 use mir.Facts.{to_z_pos, to_z-of_z}
 use borrow.Author.Tests.{lt-ltb, le-ltb, ltb-true, ltb-false}
 use Rattle.model.specs.declared.Token.{Token}
