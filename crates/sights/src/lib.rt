@@ -42,18 +42,6 @@ pub fn own_part<'a>(site: &Site, k: ProcessId, state: &'a [u8]) -> &'a [u8]
     &state[span.start..span.end]
 }
 
-// How many inputs and how many outputs box b has.
-fn port_counts(net: &Net, b: ProcessId) -> (usize, usize)
-    requires { b.0 < net.now.counts.boxes }
-    ensures ins { (result.0 ≡ length (box_in net.now b.0).ins) × (result.0 ≤ 4) }
-    ensures outs { (result.1 ≡ length (box_in net.now b.0).outs) × (result.1 ≤ 4) }
-{
-    let body = net.box_body(b);
-    let ins = usize::from(octets::byte_at(body, 0));
-    let outs = usize::from(octets::byte_at(body, 1));
-    (ins, outs)
-}
-
 // The wire of input j of box b.
 pub fn in_wire(net: &Net, b: ProcessId, j: usize) -> WireId
     requires b_lt_boxes { b.0 < net.now.counts.boxes }
@@ -101,10 +89,11 @@ fn see_inputs(site: &Site, k: ProcessId, state: &[u8], heads: &mut [u8], vals: &
     ensures oldest { Oldest (state_at site.now state.now) (box_in site.now.plan.net k.0).ins (length (box_in site.now.plan.net k.0).ins) heads.new vals.new }
     ensures variables { Variables (vars_at site.now state.now k.0) vals.new }
 {
-    let net = &site.plan.net;
-    let (ins, _) = port_counts(net, k);
-    for j in 0..ins {
-        let part = wire_part(site, in_wire(net, k, j), state);
+    let body = site.plan.net.box_body(k);
+    let n = usize::from(octets::byte_at(body, 0));
+    for j in 0..n {
+        let w = WireId(octets::byte_at(body, 3 + j));
+        let part = wire_part(site, w, state);
         heads[j] = head(part);
         vals[j] = queues::oldest(part).value;
     }
@@ -117,11 +106,12 @@ fn see_outputs(site: &Site, k: ProcessId, state: &[u8], full: &mut [u8])
     requires in_bounds { 4 ≤ length full.old }
     ensures { Fulls (net_at site.now) (state_at site.now state.now) (box_in site.now.plan.net k.0).outs (length (box_in site.now.plan.net k.0).outs) full.new }
 {
-    let net = &site.plan.net;
-    let (_, outs) = port_counts(net, k);
-    for j in 0..outs {
-        let part = wire_part(site, out_wire(net, k, j), state);
-        full[j] = u8::from(is_full(part));
+    let body = site.plan.net.box_body(k);
+    let first = 3 + usize::from(octets::byte_at(body, 0));
+    let n = usize::from(octets::byte_at(body, 1));
+    for j in 0..n {
+        let w = WireId(octets::byte_at(body, first + j));
+        full[j] = u8::from(is_full(wire_part(site, w, state)));
     }
 }
 

@@ -4,4 +4,4 @@ use Rattle.sights.specs.Seen.{Oldest, Variables}
 use Rattle.sights.proofs.see_inputs.Given as goal
 
 abbrev pub invariant-loop-j : goal.invariant-loop-j
-invariant-loop-j l = Oldest (state_at l.site l.state) (box_in l.site.plan.net l.k.0).ins l.j l.heads l.vals × Variables (vars_at l.site l.state l.k.0) l.vals
+invariant-loop-j l = Oldest (state_at l.site l.state) (box_in l.site.plan.net l.fn.k.0).ins l.j l.heads l.vals × Variables (vars_at l.site l.state l.fn.k.0) l.vals
