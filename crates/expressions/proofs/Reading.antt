@@ -9,7 +9,7 @@ use lib.Dec.{leb, eqb}
 use lib.ListN.{get_or, drop, length, length-drop}
 use lib.Seq.{drop-drop}
 use borrow.Author.Tests.{le-ltb}
-use Rattle.std.specs.Prelude.{Option, Some, None}
+use Rattle.std.specs.Prelude.{Option, Some, None, option_and_then}
 use Rattle.model.specs.Expressions.{Exp, Read, bad, got, after, read_many, head_size, operands, head_fits, build, provided, read_exp, expression}
 use Rattle.expressions.specs.Reading.{end_from, is_read, skip_to}
 
@@ -96,9 +96,8 @@ some_exp s e = open-exp s ∙ rw e
 
 -- ── size ─────────────────────────────────────────────────────────────────────────────────────
 
-unfoldable pub onward : Option ℕ → (ℕ → Option ℕ) → Option ℕ
-onward None f = None
-onward (Some n) f = f n
+abbrev onward : Option ℕ → (ℕ → Option ℕ) → Option ℕ  -- go on from an end
+onward end f = option_and_then f end
 
 -- the end of k expressions from an offset on
 unfoldable pub ends : ℕ → ℕ → List ℕ → Option ℕ
@@ -111,7 +110,7 @@ module _ (s : List ℕ) where
   end_got (got es m) a at n = ap Some (omega arith)
 
   ends_go : (k at : ℕ) (r : Read Exp) → end_from at (others expression k (drop at s) r) ≡ onward (end_from at r) (λ to. ends k to s)
-  unfolding end_from onward ends after
+  unfolding end_from ends after
   ends_go k at bad = refl
   ends_go k at (got a n) = rw (drop-drop n at s) (end_got (read_many expression k (drop (at + n) s)) a at n)
 
@@ -120,17 +119,15 @@ module _ (s : List ℕ) where
   ends_one k at = ends_go k at (expression (drop at s))
 
   onward_onward : (r : Option ℕ) (f g : ℕ → Option ℕ) → onward r (λ n. onward (f n) g) ≡ onward (onward r f) g
-  unfolding onward
   onward_onward None f g = refl
   onward_onward (Some n) f g = refl
 
   onward_cong : (r : Option ℕ) (f g : ℕ → Option ℕ) → ((n : ℕ) → f n ≡ g n) → onward r f ≡ onward r g
-  unfolding onward
   onward_cong None f g h = refl
   onward_cong (Some n) f g h = h n
 
   ends_add : (k p at : ℕ) → ends (k + p) at s ≡ onward (ends k at s) (λ to. ends p to s)
-  unfolding ends end_from onward read_many
+  unfolding ends end_from read_many
   ends_add zero p at =
       let e : 0 + p ≡ p = omega arith in
       let f : at ≡ at + 0 = omega arith in
@@ -165,7 +162,7 @@ module _ (s : List ℕ) where
       ∙ ap (λ (k : ℕ). ends k (at + head_size c) s) x
 
   pub ends_bad : (p at : ℕ) → head_fits (drop at s) ≡ false → ends (suc p) at s ≡ None
-  unfolding end_from onward
+  unfolding end_from
   ends_bad p at e = ends_one p at ∙ rw (no_exp (drop at s) e)
 
   pub ends_none : (at : ℕ) → ends 0 at s ≡ Some at
@@ -173,7 +170,7 @@ module _ (s : List ℕ) where
   ends_none at = ap Some (omega arith)
 
   whole_go : (at : ℕ) (r : Read Exp) → onward (end_from at r) (λ to. ends 0 to s) ≡ end_from at r
-  unfolding end_from onward
+  unfolding end_from
   whole_go at bad = refl
   whole_go at (got e n) = ends_none (at + n)
 

@@ -1,7 +1,7 @@
 #![tactic(auto)]
 
 // Prefix expressions on bytes: their form at any depth, and their limits.
-ghost use Rattle.std.specs.Prelude.{◌≡◌, true, ◌+◌, ◌≤◌, ◌<◌, ◌^◌, length, get_or, drop};
+ghost use Rattle.std.specs.Prelude.{◌≡◌, true, ◌||◌, eqb, ◌+◌, ◌≤◌, ◌<◌, ◌^◌, length, get_or, drop};
 ghost use Rattle.std.specs.Int.Signed.{mag};
 ghost use Rattle.model.specs.Bytes.{value_at};
 ghost use Rattle.model.specs.Expressions.{head_size, operands as operands_of, known_code, head_fits, type_at, expression};
@@ -10,6 +10,7 @@ ghost use Rattle.expressions.specs.Reading.{end_from, is_read, skip_to, precise_
 use model::Ty;
 
 // The bytes before the operands.
+#[tactic(auto, unfolding(model::specs::Expressions::head_size))]
 pub fn head_size(c: u8) -> usize
     ensures { (result ≡ head_size c) × (result ≤ 7) }
 {
@@ -22,6 +23,7 @@ pub fn head_size(c: u8) -> usize
 }
 
 // How many operands follow.
+#[tactic(auto, unfolding(model::specs::Expressions::operands))]
 pub fn operands(c: u8) -> usize
     ensures { (result ≡ operands_of c) × (result ≤ 3) }
 {
@@ -34,41 +36,36 @@ pub fn operands(c: u8) -> usize
 }
 
 // A code of the list.
+#[tactic(auto, unfolding(model::specs::Expressions::known_code))]
 pub fn known_code(c: u8) -> bool
     ensures { result ≡ known_code c }
 {
-    match c {
-        0..=5 => true,
-        6..=9 => false,
-        10..=27 => true,
-        30 => true,
-        _ => false,
-    }
+    matches!(c, 0..=5 | 10..=27 | 30)
+}
+
+// A literal and a cast name a type.
+fn names_type(c: u8) -> bool
+    ensures { result ≡ (eqb c 0 || eqb c 3) }
+{
+    matches!(c, 0 | 3)
 }
 
 // The head at an offset is whole and known.
+#[tactic(auto, using(crate::proofs::Heads::fits_is))]
 pub fn head_fits(s: &[u8], at: usize) -> bool
     requires { at ≤ length s.now }
     ensures { result ≡ head_fits (drop at s.now) }
 {
-    let left = s.len() - at;
-    if left == 0 {
+    let Some(&c) = s.get(at) else {
         return false;
-    }
-    let c = octets::byte_at(s, at);
-    if !known_code(c) {
-        return false;
-    }
-    if left < head_size(c) {
-        return false;
-    }
-    if (c == 0) | (c == 3) {
-        return octets::byte_at(s, at + 1) <= 4;
-    }
-    true
+    };
+    known_code(c)
+        && head_size(c) <= s.len() - at
+        && (!names_type(c) || octets::byte_at(s, at + 1) <= 4)
 }
 
 // The kind and the precision at an offset.
+#[tactic(auto, unfolding(model::specs::Expressions::type_at))]
 pub fn type_at(s: &[u8], at: usize) -> Ty
     requires { at < 2 ^ 63 }
     ensures { result ≡ type_at s.now at }
@@ -84,16 +81,15 @@ pub fn end_of(s: &[u8], from: usize) -> Option<usize>
     requires { from ≤ length s.now }
     ensures { result ≡ end_from from (expression (drop from s.now)) }
 {
-    let mut at: usize = from;
+    let mut at = from;
     let mut pending: usize = 1;
     while 0 < pending {
         if !head_fits(s, at) {
             return None;
         }
         let c = octets::byte_at(s, at);
-        let head = head_size(c);
+        at += head_size(c);
         pending = pending - 1 + operands(c);
-        at = at + head;
     }
     Some(at)
 }
@@ -103,27 +99,23 @@ pub fn skip(s: &[u8], from: usize) -> usize
     requires { is_read (expression (drop from s.now)) ≡ true }
     ensures { result ≡ skip_to from (expression (drop from s.now)) }
 {
-    let mut at: usize = from;
+    let mut at = from;
     let mut left: usize = 1;
     while 0 < left {
         let c = octets::byte_at(s, at);
-        let head = head_size(c);
+        at += head_size(c);
         left = left - 1 + operands(c);
-        at = at + head;
     }
     at
 }
 
 // The precision that a head names, if it names one, is 1 to 30.
+#[tactic(auto, using(crate::proofs::Heads::precise_is))]
 fn precise_head(s: &[u8], at: usize) -> bool
     requires { at < length s.now }
     ensures { result ≡ precise_head (drop at s.now) }
 {
-    let c = octets::byte_at(s, at);
-    if (c == 0) | (c == 3) {
-        return values::in_precision(type_at(s, at + 1));
-    }
-    true
+    !names_type(octets::byte_at(s, at)) || values::in_precision(type_at(s, at + 1))
 }
 
 // The offset after the expression at an offset, none where it is malformed, deeper than `depth` or not precise.

@@ -28,23 +28,23 @@ fn by_rule(rule: Option<Ty>, at: usize, next: usize) -> Result<Typed, usize>
 }
 
 // The type that entry i of the inputs (from 0) or of the variables (from 8) has; none from 4 on.
+#[tactic(auto, unfolding(model::specs::Values::no_type))]
 pub fn named(types: &[u8; 16], from: usize, i: u8) -> Ty
     requires { from ≤ 8 }
     ensures { result ≡ cond (ltb i 4) (type_at types.now (from + 2 * i)) no_type }
 {
     if i < 4 {
-        let ts: &[u8] = types;
-        return expressions::type_at(ts, from + 2 * usize::from(i));
+        return expressions::type_at(types, from + 2 * usize::from(i));
     }
     Ty { kind: 255, p: 0 }
 }
 
 // A literal fits its type; a matched value and a variable have the type of the table.
 fn leaf_type(s: &[u8], at: usize, types: &[u8; 16]) -> Option<Ty>
-    requires at_in_bounds { at ≤ length s.now }
-    requires s_value { head_fits (drop at s.now) ≡ true }
-    requires s_value_2 { precise_head (drop at s.now) ≡ true }
-    requires at_value { operands (get_or s.now at 0) ≡ 0 }
+    requires inside { at ≤ length s.now }
+    requires whole { head_fits (drop at s.now) ≡ true }
+    requires precise { precise_head (drop at s.now) ≡ true }
+    requires bare { operands (get_or s.now at 0) ≡ 0 }
     ensures { result ≡ given (type_of (scope_in types.now) (build (drop at s.now) [])) }
 {
     let c = octets::byte_at(s, at);
@@ -96,8 +96,8 @@ fn if_type(b: Ty, t: Ty, u: Ty) -> Option<Ty>
 
 // The type of the expression at an offset, of a depth that is at most `depth`.
 fn type_at(s: &[u8], at: usize, depth: usize, types: &[u8; 16]) -> Result<Typed, usize>
-    requires at_in_bounds { at ≤ length s.now }
-    requires s_value { fits_at depth (expression (drop at s.now)) ≡ true }
+    requires inside { at ≤ length s.now }
+    requires fits { fits_at depth (expression (drop at s.now)) ≡ true }
     ensures { result ≡ typed_at (scope_in types.now) at (expression (drop at s.now)) }
 {
     let c = octets::byte_at(s, at);

@@ -28,19 +28,19 @@ returns-then-not-head_fits c =
 
 pub overflow_add-pending : goal.overflow_add-pending
 overflow_add-pending c =
-    let w = whole c.args.s.now c.loop-pending.at c.byte_at-c.ensures c.head_size-head.ensures.0 c.head_fits.ensures c.if-not-head_fits.false in
+    let w = whole c.args.s.now c.loop-pending.at c.byte_at-c.ensures c.head_size-at.ensures.0 c.head_fits.ensures c.if-not-head_fits.false in
     record { fits = omega (arith, w.0, w.1) }
 
 pub loop-pending-smaller : goal.loop-pending-smaller
 loop-pending-smaller c =
-    let w = whole c.args.s.now c.loop-pending.at c.byte_at-c.ensures c.head_size-head.ensures.0 c.head_fits.ensures c.if-not-head_fits.false in
+    let w = whole c.args.s.now c.loop-pending.at c.byte_at-c.ensures c.head_size-at.ensures.0 c.head_fits.ensures c.if-not-head_fits.false in
     omega (arith, w.0, w.1)
 
 pub loop-pending-preserved : goal.loop-pending-preserved
 loop-pending-preserved c =
     let i = c.loop-pending in
-    let w = whole c.args.s.now c.loop-pending.at c.byte_at-c.ensures c.head_size-head.ensures.0 c.head_fits.ensures c.if-not-head_fits.false in
-    let e = left_is c.args.s.now c.loop-pending.at c.byte_at-c.ensures c.head_size-head.ensures.0 c.head_fits.ensures c.if-not-head_fits.false i.pending in
+    let w = whole c.args.s.now c.loop-pending.at c.byte_at-c.ensures c.head_size-at.ensures.0 c.head_fits.ensures c.if-not-head_fits.false in
+    let e = left_is c.args.s.now c.loop-pending.at c.byte_at-c.ensures c.head_size-at.ensures.0 c.head_fits.ensures c.if-not-head_fits.false i.pending in
     (w.0, (omega (arith, w.1), e c.loop-pending-test.true c.operands.ensures.0 ∙ i.invariant.1.1))
 
 pub returns : goal.returns

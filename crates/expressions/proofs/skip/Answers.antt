@@ -27,27 +27,27 @@ loop-left-init c =
 pub overflow_add-left : goal.overflow_add-left
 overflow_add-left c =
     let i = c.loop-left in
-    let w = whole c.args.s.now i.left i.at c.loop-left-test.true i.invariant.1 c.byte_at-c.ensures c.head_size-head.ensures.0 in
+    let w = whole c.args.s.now i.left i.at c.loop-left-test.true i.invariant.1 c.byte_at-c.ensures c.head_size-at.ensures.0 in
     record { fits = omega (arith, w.0, w.1) }
 
 pub overflow_add-at : goal.overflow_add-at
 overflow_add-at c =
     let i = c.loop-left in
-    let w = whole c.args.s.now i.left i.at c.loop-left-test.true i.invariant.1 c.byte_at-c.ensures c.head_size-head.ensures.0 in
+    let w = whole c.args.s.now i.left i.at c.loop-left-test.true i.invariant.1 c.byte_at-c.ensures c.head_size-at.ensures.0 in
     record { fits = omega (arith, w.0) }
 
 pub loop-left-smaller : goal.loop-left-smaller
 loop-left-smaller c =
     let i = c.loop-left in
-    let w = whole c.args.s.now i.left i.at c.loop-left-test.true i.invariant.1 c.byte_at-c.ensures c.head_size-head.ensures.0 in
+    let w = whole c.args.s.now i.left i.at c.loop-left-test.true i.invariant.1 c.byte_at-c.ensures c.head_size-at.ensures.0 in
     omega (arith, w.0, w.1)
 
 pub loop-left-preserved : goal.loop-left-preserved
 loop-left-preserved c =
     let i = c.loop-left in
     let s = c.args.s.now in
-    let w = whole s i.left i.at c.loop-left-test.true i.invariant.1 c.byte_at-c.ensures c.head_size-head.ensures.0 in
-    let e = left_is s i.left i.at c.loop-left-test.true i.invariant.1 c.byte_at-c.ensures c.head_size-head.ensures.0 c.operands.ensures.0 in
+    let w = whole s i.left i.at c.loop-left-test.true i.invariant.1 c.byte_at-c.ensures c.head_size-at.ensures.0 in
+    let e = left_is s i.left i.at c.loop-left-test.true i.invariant.1 c.byte_at-c.ensures c.head_size-at.ensures.0 c.operands.ensures.0 in
     (omega (arith, w.1), e)
 
 pub returns : goal.returns

@@ -11,37 +11,37 @@ use Rattle.types.proofs.Leaves.{leaf_answer}
 use Rattle.types.proofs.Exits.{unjudged, asked, onward, exit_ill, exit_one, exit_two, exit_if}
 use Rattle.types.proofs.+type_at.Goals as goal
 
-pub leaf_type-requires-clause-s_value : goal.leaf_type-requires-clause-s_value
-leaf_type-requires-clause-s_value t c =
-    let x = call c.args.s.now c.args.at c.args.depth c.byte_at-c.ensures c.operands-k.ensures.0 c.requires.at_in_bounds c.requires.s_value in
+pub leaf_type-requires-clause-whole : goal.leaf_type-requires-clause-whole
+leaf_type-requires-clause-whole t c =
+    let x = call c.args.s.now c.args.at c.args.depth c.byte_at-c.ensures c.operands-k.ensures.0 c.requires.inside c.requires.fits in
     whole x
 
-pub leaf_type-requires-clause-s_value_2 : goal.leaf_type-requires-clause-s_value_2
-leaf_type-requires-clause-s_value_2 t c =
-    let x = call c.args.s.now c.args.at c.args.depth c.byte_at-c.ensures c.operands-k.ensures.0 c.requires.at_in_bounds c.requires.s_value in
+pub leaf_type-requires-clause-precise : goal.leaf_type-requires-clause-precise
+leaf_type-requires-clause-precise t c =
+    let x = call c.args.s.now c.args.at c.args.depth c.byte_at-c.ensures c.operands-k.ensures.0 c.requires.inside c.requires.fits in
     precise x
 
 pub returns-then-k-eq0 : goal.returns-then-k-eq0
 returns-then-k-eq0 t c =
-    let x = call c.args.s.now c.args.at c.args.depth c.byte_at-c.ensures c.operands-k.ensures.0 c.requires.at_in_bounds c.requires.s_value in
-    let y = leaf_at c.args.s.now c.args.at c.byte_at-c.ensures c.requires.at_in_bounds (whole x) (no_operands x c.if-k-eq0.true) in
+    let x = call c.args.s.now c.args.at c.args.depth c.byte_at-c.ensures c.operands-k.ensures.0 c.requires.inside c.requires.fits in
+    let y = leaf_at c.args.s.now c.args.at c.byte_at-c.ensures c.requires.inside (whole x) (no_operands x c.if-k-eq0.true) in
     c.by_rule.ensures ∙ rw (c.leaf_type.ensures, c.head_size.ensures.0) (leaf_answer y c.args.types.now)
 
 pub overflow_sub-depth : goal.overflow_sub-depth
 overflow_sub-depth t c =
-    let x = call c.args.s.now c.args.at c.args.depth c.byte_at-c.ensures c.operands-k.ensures.0 c.requires.at_in_bounds c.requires.s_value in
+    let x = call c.args.s.now c.args.at c.args.depth c.byte_at-c.ensures c.operands-k.ensures.0 c.requires.inside c.requires.fits in
     deep x
 
 pub type_at-requires : goal.type_at-requires
 type_at-requires t c =
-    let x = call c.args.s.now c.args.at c.args.depth c.byte_at-c.ensures c.operands-k.ensures.0 c.requires.at_in_bounds c.requires.s_value in
+    let x = call c.args.s.now c.args.at c.args.depth c.byte_at-c.ensures c.operands-k.ensures.0 c.requires.inside c.requires.fits in
     let some = pos_of_ne-zero c.if-k-eq0.false in
     let first = unjudged (scope_in c.args.types.now) x c.head_size.ensures.0 in
     asked first some c.decreases
 
 pub returns-in_err-a : goal.returns-in_err-a
 returns-in_err-a t c =
-    let x = call c.args.s.now c.args.at c.args.depth c.byte_at-c.ensures c.operands-k.ensures.0 c.requires.at_in_bounds c.requires.s_value in
+    let x = call c.args.s.now c.args.at c.args.depth c.byte_at-c.ensures c.operands-k.ensures.0 c.requires.inside c.requires.fits in
     let some = pos_of_ne-zero c.if-k-eq0.false in
     let first = unjudged (scope_in c.args.types.now) x c.head_size.ensures.0 in
     let w = err_from_is_err_and c.from_residual.result c.from_residual.ensures.1 in
@@ -49,12 +49,12 @@ returns-in_err-a t c =
 
 pub type_at-named-requires : goal.type_at-named-requires
 type_at-named-requires t c =
-    let x = call c.args.s.now c.args.at c.args.depth c.byte_at-c.ensures c.operands-k.ensures.0 c.requires.at_in_bounds c.requires.s_value in
+    let x = call c.args.s.now c.args.at c.args.depth c.byte_at-c.ensures c.operands-k.ensures.0 c.requires.inside c.requires.fits in
     omega (arith, head_inside x, head_pos x.c)
 
 pub returns-then-k-eq1 : goal.returns-then-k-eq1
 returns-then-k-eq1 t c =
-    let x = call c.args.s.now c.args.at c.args.depth c.byte_at-c.ensures c.operands-k.ensures.0 c.requires.at_in_bounds c.requires.s_value in
+    let x = call c.args.s.now c.args.at c.args.depth c.byte_at-c.ensures c.operands-k.ensures.0 c.requires.inside c.requires.fits in
     let some = pos_of_ne-zero c.if-k-eq0.false in
     let first = unjudged (scope_in c.args.types.now) x c.head_size.ensures.0 in
     let second = onward first some (sym c.type_at.ensures ∙ c.in_ok-a.was) in
@@ -62,12 +62,12 @@ returns-then-k-eq1 t c =
 
 pub overflow_sub-depth-2 : goal.overflow_sub-depth-2
 overflow_sub-depth-2 t c =
-    let x = call c.args.s.now c.args.at c.args.depth c.byte_at-c.ensures c.operands-k.ensures.0 c.requires.at_in_bounds c.requires.s_value in
+    let x = call c.args.s.now c.args.at c.args.depth c.byte_at-c.ensures c.operands-k.ensures.0 c.requires.inside c.requires.fits in
     deep x
 
 pub type_at-requires-2 : goal.type_at-requires-2
 type_at-requires-2 t c =
-    let x = call c.args.s.now c.args.at c.args.depth c.byte_at-c.ensures c.operands-k.ensures.0 c.requires.at_in_bounds c.requires.s_value in
+    let x = call c.args.s.now c.args.at c.args.depth c.byte_at-c.ensures c.operands-k.ensures.0 c.requires.inside c.requires.fits in
     let some = pos_of_ne-zero c.if-k-eq0.false in
     let first = unjudged (scope_in c.args.types.now) x c.head_size.ensures.0 in
     let second = onward first some (sym c.type_at.ensures ∙ c.in_ok-a.was) in
@@ -76,7 +76,7 @@ type_at-requires-2 t c =
 
 pub returns-in_err-b : goal.returns-in_err-b
 returns-in_err-b t c =
-    let x = call c.args.s.now c.args.at c.args.depth c.byte_at-c.ensures c.operands-k.ensures.0 c.requires.at_in_bounds c.requires.s_value in
+    let x = call c.args.s.now c.args.at c.args.depth c.byte_at-c.ensures c.operands-k.ensures.0 c.requires.inside c.requires.fits in
     let some = pos_of_ne-zero c.if-k-eq0.false in
     let first = unjudged (scope_in c.args.types.now) x c.head_size.ensures.0 in
     let second = onward first some (sym c.type_at.ensures ∙ c.in_ok-a.was) in
@@ -86,7 +86,7 @@ returns-in_err-b t c =
 
 pub returns-then-k-eq2 : goal.returns-then-k-eq2
 returns-then-k-eq2 t c =
-    let x = call c.args.s.now c.args.at c.args.depth c.byte_at-c.ensures c.operands-k.ensures.0 c.requires.at_in_bounds c.requires.s_value in
+    let x = call c.args.s.now c.args.at c.args.depth c.byte_at-c.ensures c.operands-k.ensures.0 c.requires.inside c.requires.fits in
     let some = pos_of_ne-zero c.if-k-eq0.false in
     let first = unjudged (scope_in c.args.types.now) x c.head_size.ensures.0 in
     let second = onward first some (sym c.type_at.ensures ∙ c.in_ok-a.was) in
@@ -96,12 +96,12 @@ returns-then-k-eq2 t c =
 
 pub overflow_sub-depth-3 : goal.overflow_sub-depth-3
 overflow_sub-depth-3 t c =
-    let x = call c.args.s.now c.args.at c.args.depth c.byte_at-c.ensures c.operands-k.ensures.0 c.requires.at_in_bounds c.requires.s_value in
+    let x = call c.args.s.now c.args.at c.args.depth c.byte_at-c.ensures c.operands-k.ensures.0 c.requires.inside c.requires.fits in
     deep x
 
 pub type_at-requires-3 : goal.type_at-requires-3
 type_at-requires-3 t c =
-    let x = call c.args.s.now c.args.at c.args.depth c.byte_at-c.ensures c.operands-k.ensures.0 c.requires.at_in_bounds c.requires.s_value in
+    let x = call c.args.s.now c.args.at c.args.depth c.byte_at-c.ensures c.operands-k.ensures.0 c.requires.inside c.requires.fits in
     let some = pos_of_ne-zero c.if-k-eq0.false in
     let first = unjudged (scope_in c.args.types.now) x c.head_size.ensures.0 in
     let second = onward first some (sym c.type_at.ensures ∙ c.in_ok-a.was) in
@@ -113,7 +113,7 @@ type_at-requires-3 t c =
 
 pub returns-in_err-d : goal.returns-in_err-d
 returns-in_err-d t c =
-    let x = call c.args.s.now c.args.at c.args.depth c.byte_at-c.ensures c.operands-k.ensures.0 c.requires.at_in_bounds c.requires.s_value in
+    let x = call c.args.s.now c.args.at c.args.depth c.byte_at-c.ensures c.operands-k.ensures.0 c.requires.inside c.requires.fits in
     let some = pos_of_ne-zero c.if-k-eq0.false in
     let first = unjudged (scope_in c.args.types.now) x c.head_size.ensures.0 in
     let second = onward first some (sym c.type_at.ensures ∙ c.in_ok-a.was) in
@@ -126,7 +126,7 @@ returns-in_err-d t c =
 
 pub returns : goal.returns
 returns t c =
-    let x = call c.args.s.now c.args.at c.args.depth c.byte_at-c.ensures c.operands-k.ensures.0 c.requires.at_in_bounds c.requires.s_value in
+    let x = call c.args.s.now c.args.at c.args.depth c.byte_at-c.ensures c.operands-k.ensures.0 c.requires.inside c.requires.fits in
     let some = pos_of_ne-zero c.if-k-eq0.false in
     let first = unjudged (scope_in c.args.types.now) x c.head_size.ensures.0 in
     let second = onward first some (sym c.type_at.ensures ∙ c.in_ok-a.was) in

@@ -4,7 +4,7 @@ use Rattle.types.proofs.Leaves.{limits_fit}
 use Rattle.types.proofs.type_of.Goals as goal
 
 pub type_at-requires : goal.type_at-requires
-type_at-requires c = record { at_in_bounds = omega arith; s_value = limits_fit (expression c.args.s.now) c.requires }
+type_at-requires c = record { inside = omega arith; fits = limits_fit (expression c.args.s.now) c.requires }
 
 pub returns : goal.returns
 returns c = c.type_at.ensures
