@@ -1,1 +1,2 @@
--- Nothing of its own.
+-- What the contracts of network, and of the crates above it, cite beside the model.
+pub mod Answers

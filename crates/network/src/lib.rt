@@ -1,81 +1,94 @@
 #![tactic(auto)]
 
-// The whole check of a network file: 2 for its length, then the fields, then the ports.
-ghost use Rattle.std.specs.Prelude.{◌≡◌, ◌≤◌, length};
-ghost use Rattle.model.specs.NetworkFile.{network};
+// The whole check of a network file: its length, then the fields, then the ports. And where the bodies of an accepted file's rules lie.
+ghost use Rattle.std.specs.Prelude.{◌≡◌, ◌+◌, ◌≤◌, length};
 ghost use Rattle.model.specs.Calls.{said_check, check_call, body_call};
 ghost use Rattle.octets.specs.Part.{PartOf};
-ghost use Rattle.index.specs.Verdicts.{verdict_in, Fit};
-ghost use Rattle.lookup.specs.Tabled.{Tabled};
+ghost use Rattle.network.specs.Answers.{Checked, Lies, Found};
 
-use index::Checked;
-use model::{CheckAnswer, ProcessId, Refusal, RuleId};
-use table::Counts;
+use lookup::Net;
+use model::{ProcessId, Reason, Refusal, RuleId};
 
-// What the check finds. Of an accepted file the table holds where each field stands.
-pub fn checked(net: &[u8], tab: &mut [u16]) -> Checked
-    requires { 656 ≤ length tab.old }
-    ensures result_after { verdict_in tab.new result ≡ network net.now }
-    ensures fit { Fit result }
+// The most bytes that a network file may have.
+const MOST: usize = 16384;
+
+// What the check finds: the network of an accepted file, its table filled; or the refusal.
+pub fn checked<'a>(file: &'a [u8], table: &'a mut [u16]) -> Result<Net<'a>, Refusal>
+    requires { 656 ≤ length table.old }
+    ensures { Checked file.now result }
 {
-    if 16384 < net.len() {
-        return Checked::Bad {
-            number: 2,
+    if MOST < file.len() {
+        return Err(Refusal {
+            reason: Reason::Limits,
             place: 0,
-        };
+        });
     }
-    let r = index::index(net, tab);
-    let Checked::Good(c) = r else {
-        return r;
-    };
-    let wires = c.wires;
-    let w = ports::odd_wire(net, &tab[..], c);
-    if w < wires {
-        return Checked::Bad {
-            number: 3,
+    let counts = index::index(file, table)?;
+    let w = ports::odd_wire(file, table, counts);
+    if w < counts.wires {
+        return Err(Refusal {
+            reason: Reason::Ports,
             place: w,
-        };
+        });
     }
-    r
+    Ok(Net {
+        file,
+        table,
+        counts,
+    })
 }
 
-// The check of a network file, as a call of the bench: accepted, or the refusal's number and place.
-pub fn check(net: &[u8]) -> CheckAnswer
-    ensures { said_check result ≡ check_call net.now }
+// The check of a network file, as a call of the bench: accepted, or the refusal.
+pub fn check(file: &[u8]) -> Result<(), Refusal>
+    ensures { said_check result ≡ check_call file.now }
 {
     let mut table = [0u16; 656];
-    match checked(net, &mut table) {
-        Checked::Good(_) => CheckAnswer::Accepted,
-        Checked::Bad { number, place } => CheckAnswer::Refused {
-            refusal: Refusal { number, place },
-        },
-    }
+    checked(file, &mut table)?;
+    Ok(())
 }
 
-// The body of rule r of box b by an accepted file's table; empty at the file's end where there is none.
-fn body_in<'a>(net: &'a [u8], table: &[u16], c: Counts, b: ProcessId, r: RuleId) -> &'a [u8]
-    requires { Tabled net.now table.now c }
-    ensures { PartOf net.entry (body_call net.now b.0 r.0).start (body_call net.now b.0 r.0).len result }
+// A stretch of a file: where it begins, and how many bytes it has.
+#[derive(Clone, Copy)]
+pub struct Stretch {
+    pub start: usize,
+    pub len: usize,
+}
+
+// Where the body of rule r of box b lies in a network's file; none where there is no such rule.
+fn stretch_in(net: &Net, b: ProcessId, r: RuleId) -> Option<Stretch>
+    ensures { Found net.now.file.now b.0 r.0 result }
 {
-    let end = net.len();
-    if c.boxes <= octets::wide(b.0) {
-        return octets::part(net, end, 0);
+    if net.counts.boxes <= usize::from(b.0) {
+        return None;
     }
-    let rules = lookup::rules_of(net, table, c, b);
-    if rules <= octets::wide(r.0) {
-        return octets::part(net, end, 0);
+    if net.rules_of(b) <= usize::from(r.0) {
+        return None;
     }
-    lookup::rule_body(net, table, c, b, r)
+    let at = net.rule_at(b, r);
+    Some(Stretch {
+        start: at + 3,
+        len: octets::two_at(net.file, at + 1),
+    })
 }
 
-// The body of rule r of box b, that very part of the file; empty at the file's end for an unknown box or rule and for a refused network.
-pub fn rule_body<'a>(net: &'a [u8], b: ProcessId, r: RuleId) -> &'a [u8]
-    ensures { PartOf net.entry (body_call net.now b.0 r.0).start (body_call net.now b.0 r.0).len result }
+// Where the body of rule r of box b lies; empty at the file's end for an unknown box or rule and for a refused network.
+pub fn rule_stretch(file: &[u8], b: ProcessId, r: RuleId) -> Stretch
+    ensures { Lies file.now b.0 r.0 result }
 {
     let mut table = [0u16; 656];
-    let Checked::Good(c) = checked(net, &mut table) else {
-        let end = net.len();
-        return octets::part(net, end, 0);
-    };
-    body_in(net, &table, c, b, r)
+    let found = checked(file, &mut table)
+        .ok()
+        .and_then(|net| stretch_in(&net, b, r));
+    found.unwrap_or(Stretch {
+        start: file.len(),
+        len: 0,
+    })
+}
+
+// That body, that very part of the file.
+pub fn rule_body<'a>(file: &'a [u8], b: ProcessId, r: RuleId) -> &'a [u8]
+    ensures { PartOf file.entry (body_call file.now b.0 r.0).start (body_call file.now b.0 r.0).len result }
+{
+    let body = rule_stretch(file, b, r);
+    octets::part(file, body.start, body.len)
 }

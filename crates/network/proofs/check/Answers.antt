@@ -1,15 +1,15 @@
+use Rattle.std.proofs.lemmas.Result.{err_from_is_err_and}
 use Rattle.model.specs.Calls.{said_check, refusal}
+use Rattle.network.specs.Answers.{Checked}
 use Rattle.network.proofs.Laws.{said_bad, said_good}
 use Rattle.network.proofs.check.Goals as goal
 
-pub returns-in-Good : goal.returns-in-Good
-unfolding said_check
-returns-in-Good c =
-    let k = c in
-    said_good k.args.net.now k.checked.new.tab k.checked.result _ c.in-Good.is k.checked.ensures.result_after
+pub returns-in_err-checked : goal.returns-in_err-checked
+unfolding said_check refusal Checked
+returns-in_err-checked c =
+    let p = err_from_is_err_and c.from_residual.result c.from_residual.ensures.1 in
+    rw (p.1, p.2) (said_bad _ _ _ c.in_err-checked.ensures)
 
-pub returns-in-Bad : goal.returns-in-Bad
-unfolding said_check refusal
-returns-in-Bad c =
-    let k = c in
-    said_bad k.args.net.now k.checked.new.tab k.checked.result _ _ c.in-Bad.is k.checked.ensures.result_after
+pub returns : goal.returns
+unfolding said_check Checked
+returns c = said_good _ c.in_ok-checked.field-0 c.in_ok-checked.ensures

@@ -1,47 +1,51 @@
 use Prim.Native.Nat.{◌≤◌}
-use mathlib.Core.Path.{sym}
-use lib.ListN.{length}
-use Rattle.table.proofs.Lengths.{wires_n}
+use mathlib.Core.Path.{refl, sym}
 use native.Mathlib.Omega.{arith}
-use Rattle.model.proofs.Accepted.{fields_valid}
-use Rattle.index.specs.Verdicts.{verdict_in, Fit}
-use Rattle.network.proofs.Laws.{too_long, odd_ports, all_good, bad-result, good_result, good_fit}
 use borrow.Author.Rules.{rules}
+use lib.ListN.{length}
+use Rattle.std.proofs.lemmas.Result.{err_from_is_err_and}
+use Rattle.model.specs.Reasons.{reason_number}
+use Rattle.model.proofs.Accepted.{fields_valid}
+use Rattle.table.proofs.Lengths.{wires_n}
+use Rattle.index.specs.Verdicts.{verdict_in}
+use Rattle.network.specs.Answers.{Checked}
+use Rattle.network.proofs.Laws.{too_long, bad_field, odd_ports, all_good}
 use Rattle.network.proofs.checked.Goals as goal
 
-pub returns-then-net-gt16384 : goal.returns-then-net-gt16384
-unfolding verdict_in Fit
-returns-then-net-gt16384 c = record { result_after = too_long c.args.net.now c.if-net-gt16384.true; fit = tt }
+pub returns-then-file-gt-MOST : goal.returns-then-file-gt-MOST
+unfolding Checked reason_number
+returns-then-file-gt-MOST c = too_long _ c.if-file-gt-MOST.true
 
-pub returns-in_default : goal.returns-in_default
-returns-in_default c =
-    let i = c in
-    let start = i in
-    record { result_after = bad-result start.args.net.now i.index-r.new.tab i.index-r.result _ _ i.if-net-gt16384.false c.in_default.is i.index-r.ensures.result_after; fit = i.index-r.ensures.fit }
+pub returns-in_err-counts : goal.returns-in_err-counts
+unfolding Checked verdict_in
+returns-in_err-counts c =
+    let p = err_from_is_err_and c.from_residual.result c.from_residual.ensures.1 in
+    rw (p.1, p.2) (bad_field _ c.if-file-gt-MOST.false _ _ c.in_err-counts.ensures.result_after)
 
-pub odd_wire-w-requires : goal.odd_wire-w-requires
-odd_wire-w-requires c =
-    let i = c in
-    let start = i in
-    let e = good_result start.args.net.now i.index-r.new.tab i.index-r.result _ c.in-Good.is i.index-r.ensures.result_after in
-    record { within = good_fit i.index-r.result _ c.in-Good.is i.index-r.ensures.fit; in_bounds = search rules; valid = fields_valid start.args.net.now _ (sym e) }
+pub odd_wire-w-requires-clause-valid : goal.odd_wire-w-requires-clause-valid
+unfolding verdict_in
+odd_wire-w-requires-clause-valid c = fields_valid _ _ (sym c.in_ok-counts.ensures.result_after)
 
-pub returns-then-w-wires : goal.returns-then-w-wires
-unfolding verdict_in Fit
-returns-then-w-wires c =
-    let i = c in
-    let start = i in
-    let r = c.in-Good in
-    let long : 656 ≤ length i.index-r.new.tab = search rules in
-    let e = good_result start.args.net.now i.index-r.new.tab i.index-r.result _ r.is i.index-r.ensures.result_after in
-    record { result_after = odd_ports start.args.net.now i.if-net-gt16384.false _ c.odd_wire-w.result e c.odd_wire-w.ensures (omega (arith, c.if-w-wires.true, wires_n i.index-r.new.tab _ long (good_fit i.index-r.result _ r.is i.index-r.ensures.fit))); fit = tt }
+pub returns-then-w-counts : goal.returns-then-w-counts
+unfolding Checked verdict_in reason_number
+returns-then-w-counts c =
+    let long : 656 ≤ length c.index.new.tab = search rules in
+    let i = c.in_ok-counts.ensures in
+    odd_ports _ c.if-file-gt-MOST.false _ _ i.result_after c.odd_wire-w.ensures (omega (arith, c.if-w-counts.true, wires_n _ _ long i.fit))
+
+pub invariant_of-result : goal.invariant_of-result
+unfolding verdict_in
+invariant_of-result c =
+    let long : 656 ≤ length c.index.new.tab = search rules in
+    let i = c.in_ok-counts.ensures in
+    record {
+      tabled = record {
+        long = long;
+        within = i.fit;
+        found = all_good _ c.if-file-gt-MOST.false _ _ i.result_after c.odd_wire-w.ensures (omega (arith, c.if-w-counts.false, wires_n _ _ long i.fit));
+      };
+    }
 
 pub returns : goal.returns
-unfolding verdict_in Fit
-returns c =
-    let i = c in
-    let start = i in
-    let r = c.in-Good in
-    let long : 656 ≤ length i.index-r.new.tab = search rules in
-    let e = good_result start.args.net.now i.index-r.new.tab i.index-r.result _ r.is i.index-r.ensures.result_after in
-    record { result_after = all_good start.args.net.now i.if-net-gt16384.false _ c.odd_wire-w.result e c.odd_wire-w.ensures (omega (arith, c.if-w-wires.false, wires_n i.index-r.new.tab _ long (good_fit i.index-r.result _ r.is i.index-r.ensures.fit))); fit = good_fit i.index-r.result _ r.is i.index-r.ensures.fit }
+unfolding Checked
+returns c = refl
