@@ -74,6 +74,7 @@ fn pattern_fits(b: &[u8], at: usize, t: Ty) -> bool
 }
 
 // The n patterns from an offset on fit the first types of a table. What can be a variable's can be an input's.
+// This walk, actions_fit and actions_keep stay apart: what a step asks holds only where the walk has come, which an invariant says shorter than a closure's clauses.
 fn patterns_fit(b: &[u8], from: usize, n: usize, types: &[u8]) -> Result<(), usize>
     requires n_bound { n ≤ 4 }
     requires b_value { is_read (patterns_from false n from b.now) ≡ true }
