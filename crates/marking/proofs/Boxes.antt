@@ -3,7 +3,7 @@
 use mathlib.Core.Path.{◌≡◌, refl, sym, ap, ◌∙◌}
 use mathlib.Core.Bool.{true, false}
 use mathlib.Core.List.{List, [], ◌∷◌}
-use Prim.Native.Nat.{ℕ, suc, ◌-◌, ◌*◌, ◌≤◌, ◌<◌}
+use Prim.Native.Nat.{ℕ, suc, ◌*◌, ◌≤◌, ◌<◌}
 use native.Mathlib.Omega.{arith}
 use lib.Dec.{leb, ltb}
 use lib.ListN.{length, get_or, drop}
@@ -19,8 +19,7 @@ use Rattle.model.proofs.Lookup.{rule_at_lem}
 use Rattle.shapes.specs.Shapes.{wires_in, BoxFits, types_in, shape_in}
 use Rattle.shapes.specs.declared.Arity.{Arity}
 use Rattle.rules.specs.declared.Parts.{Parts}
-use Rattle.rules.specs.declared.Layout.{Layout}
-use Rattle.rules.specs.declared.Layout.TheVariants as layout
+use Rattle.std.specs.Prelude.{Option, Some, None}
 use Rattle.expressions.specs.Reading.{limits_read}
 use Rattle.rules.specs.Bodies.{patterns_from, actions_from, limits_of, layout_of, Parted}
 use Rattle.rules.proofs.Laying.{Laid, laid, is_laid, form_is, rule_is, rule_read_lem, rule_limits_lem}
@@ -49,10 +48,10 @@ unfolding list_read rule_read rule_is
 ins_of_lem w = rw (w.ins.read, rule_read_lem w)
 
 -- a body that is laid out has parts
-parted : (a : Arity) (b : List ℕ) (y : Layout) → layout_of a b ≡ y → is_laid y ≡ true → Parted a b
+parted : (a : Arity) (b : List ℕ) (y : Option Parts) → layout_of a b ≡ y → is_laid y ≡ true → Parted a b
 unfolding is_laid
-parted a b layout.Malformed e g = let z : ◌≡◌ {A = ℕ} 0 1 = cc in absurd (omega arith)
-parted a b (layout.Whole p) e g = record { parts = p; whole = e }
+parted a b None e g = absurd cc
+parted a b (Some p) e g = record { parts = p; whole = e }
 
 module _ (s t : List ℕ) (c : Counts) (h : Tabled s t c) (k : ℕ) (l : k < c.boxes) where
   abbrev x : Index
@@ -159,7 +158,6 @@ module _ (s t : List ℕ) (c : Counts) (h : Tabled s t c) (k : ℕ) (l : k < c.b
 
       pub rules_ready : (n : ℕ) → n ≡ length (box_at s x k).rules → Rules s t c k n a ins vars
       rules_ready n f = record {
-        tabled = h;
         known = l;
         there = omega (arith, f);
         few = omega (arith, f, (box_is s t c h k l).few_rules);

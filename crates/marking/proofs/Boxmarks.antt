@@ -1,20 +1,19 @@
 -- The mark of a box from what it sees.
 -- Assumes nothing.
-use mathlib.Core.Path.{◌≡◌, refl, sym, ap, ap₂, ◌∙◌, subst}
-use mathlib.Core.Bool.{Bool, true, false}
-use mathlib.Core.List.{List, [], ◌∷◌, ◌++◌, map}
-use Prim.Native.Nat.{ℕ, zero, suc, ◌+◌, ◌-◌, ◌≤◌, ◌<◌}
+use mathlib.Core.Path.{◌≡◌, refl, sym, ap, ap₂, ◌∙◌}
+use mathlib.Core.Bool.{true}
+use mathlib.Core.List.{List, ◌++◌, map}
+use Prim.Native.Nat.{ℕ, zero, suc, ◌+◌, ◌<◌}
 use native.Mathlib.Omega.{arith}
 use lib.IntN.{ℤ}
 use lib.ListN.{length, get_or, get_or-append}
-use Rattle.model.specs.Bytes.{value_at}
-use Rattle.model.specs.Rules.{Rule, Pattern, ignore, pattern_of, Shape, rule_read, read_rule}
-use Rattle.model.specs.Network.{Box, Net, State, Proc, box, Own, vars, proc, own, vars_of, rule, shape_of}
+use Rattle.model.specs.Rules.{Rule, ignore, rule_read, read_rule}
+use Rattle.model.specs.Network.{Box, Net, State, box, proc, own, vars_of, shape_of}
 use Rattle.model.specs.NetworkFile.{Index, body_at, box_of, wires_of, shape_at, box_at, net_of, rule_at}
 use Rattle.model.specs.Expressions.{value_of}
 use Rattle.model.specs.Cycles.{Mark, attempt, guarded, ready_rule, or_else, first, up_from, tried, try_rule, mark_of, mark, env_of, look, reads}
-use Rattle.model.proofs.Decoded.{GoodRule, GoodBox}
-use Rattle.model.proofs.Kept.{GoodState, GoodOwn}
+use Rattle.model.proofs.Decoded.{GoodRule}
+use Rattle.model.proofs.Kept.{GoodOwn}
 use Rattle.model.proofs.Lookup.{box_proc, procs_length}
 use Rattle.shapes.specs.Shapes.{wires_in, types_in, shape_in}
 use Rattle.shapes.specs.declared.Arity.{Arity}
@@ -28,10 +27,12 @@ use Rattle.places.proofs.Standing.{state_good}
 use Rattle.sights.specs.declared.View.{View}
 use Rattle.sights.specs.Seen.{Seen}
 use Rattle.sights.proofs.Ports.{box_is}
-use Rattle.trying.specs.declared.Tried.{Tried}
+use Rattle.std.specs.Prelude.{Option, Result}
+use Rattle.model.specs.declared.Fault.{Fault}
+use Rattle.model.specs.declared.RuleId.{RuleId}
 use Rattle.trying.specs.Views.{try_on, mark_as}
 use Rattle.trying.specs.Working.{Ruled}
-use Rattle.trying.proofs.Offsets.{StandsAt, ins_length, pattern_stands}
+use Rattle.trying.proofs.Offsets.{ins_length, pattern_stands}
 use Rattle.marking.proofs.Boxes.{wire_types_lem, variable_types_lem, ins_types, vars_types, read_is, good, rule_is_lem, ruled}
 use Rattle.marking.proofs.Trials.{tagged, tag_known, Suits, trial_same}
 
@@ -112,7 +113,7 @@ module _ (s t p ts b : List ℕ) (c : Counts) (h : Standing s t p ts b c) (k : �
           rw (ins_types s t c h.tabled k l o e ins outs vars a d, vars_types s t c h.tabled k l o e ins outs vars a d)
           (trial_same N S B vs v q ru suits r ∙ ap (λ (y : Rule). attempt (ready_rule N S B y vs) (guarded (env_of N B y (look S B.ins (map reads y.ins)) vs) y r (value_of (env_of N B y (look S B.ins (map reads y.ins)) vs) y.guard))) (rule_is_lem s t c h.tabled k l o e ins outs vars a d r m))
 
-    pub box_marked : {q : Tried} (v : View) → Seen N S B vs v → (n : ℕ) → n ≡ length B.rules
+    pub box_marked : {q : Result (Option RuleId) Fault} (v : View) → Seen N S B vs v → (n : ℕ) → n ≡ length B.rules
         → q ≡ mark_as (first (λ r. try_on (types_in ins a.ins) (types_in vars a.vars) v.heads v.full v.vals (rule_read (read_rule a.ins a.outs a.vars (body_at s (rule_at x k r)))) r) (up_from 0 n))
         → q ≡ mark_as (mark N S k)
     box_marked v g n f q =

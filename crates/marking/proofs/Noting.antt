@@ -1,6 +1,6 @@
 -- Marks noted one process after another.
 -- Assumes nothing.
-use mathlib.Core.Path.{◌≡◌, refl, sym, ap, ap₂, ◌∙◌, subst}
+use mathlib.Core.Path.{◌≡◌, refl, sym, ap, ap₂, ◌∙◌}
 use mathlib.Core.Bool.{Bool, true, false, cond}
 use mathlib.Core.List.{List, [], ◌∷◌, map}
 use Prim.Native.Nat.{ℕ, zero, suc, ◌+◌, ◌-◌, ◌*◌, ◌^◌, ◌≤◌, ◌<◌}
@@ -12,15 +12,13 @@ use lib.ListN.{length, get_or, set, replicate, length-set, get_or-eq_default}
 use lib.Pow.{pow-add}
 use lib.Seq.{ext_get_or, get_or-set_same, get_or-set_other}
 use borrow.Author.Tests.{lt-ltb, le-ltb}
+use Rattle.std.specs.Prelude.{Some, None, Ok, Err}
+use Rattle.model.specs.declared.Fault.{Fault}
 use Rattle.model.specs.declared.RuleId.{RuleId}
-use Rattle.model.specs.Network.{Box, Proc, box, input, output, Net, State, nobody, proc}
-use Rattle.model.specs.Cycles.{Mark, quiet, fires, faulty, mark, marked, keep_if, marked_from, marked_of, processes, bits, marked_set, box_rule, rule_numbers, Finding, broken, still, moving, blame, fault_in, any_mark, finding, first, tried as tried_rules, mark_of, up_from}
+use Rattle.model.specs.Network.{Box, box, Net, State, nobody, proc}
+use Rattle.model.specs.Cycles.{Mark, quiet, fires, faulty, mark, marked, keep_if, marked_from, marked_of, processes, bits, marked_set, box_rule, rule_numbers, Finding, broken, blame, fault_in, any_mark, finding, first, tried as tried_rules, mark_of, up_from}
 use Rattle.model.specs.Calls as calls
-use Rattle.trying.specs.declared.Tried.{Tried}
-use Rattle.trying.specs.declared.Tried.TheVariants as tried
 use Rattle.trying.specs.Views.{mark_as}
-use Rattle.marking.specs.declared.Step.{Step}
-use Rattle.marking.specs.declared.Step.TheVariants as step
 use Rattle.marking.specs.Noted.{step_as, with_rule, rules_as}
 
 pow_more : (k : ℕ) → 2 ^ (k + 1) ≡ 2 ^ k + 2 ^ k
@@ -37,23 +35,23 @@ unfolding with_rule
 noted_in k j boxes r rules e l = rw (e, lt-ltb k boxes (omega arith))
 
 module _ (k set' boxes : ℕ) (rules : List ℕ) where
-  pub step_quiet : (q : Mark) → tried.Quiet ≡ mark_as q → (step.Go set' ≡ step_as q k set') × (rules ≡ rules_as q k boxes rules)
+  pub step_quiet : (q : Mark) → Ok None ≡ mark_as q → (Ok set' ≡ step_as q k set') × (rules ≡ rules_as q k boxes rules)
   unfolding mark_as step_as rules_as
   step_quiet quiet e = (refl, refl)
-  step_quiet (fires r) e = let z : ◌≡◌ {A = ℕ} 0 1 = cc in absurd (omega arith)
-  step_quiet (faulty x) e = let z : ◌≡◌ {A = ℕ} 0 1 = cc in absurd (omega arith)
+  step_quiet (fires r) e = absurd cc
+  step_quiet (faulty x) e = absurd cc
 
-  pub step_faulty : (q : Mark) (x : ℕ) → tried.Faulty x ≡ mark_as q → (step.Fault x ≡ step_as q k set') × (rules ≡ rules_as q k boxes rules)
+  pub step_faulty : (q : Mark) (x : Fault) → Err x ≡ mark_as q → (Err x ≡ step_as q k set') × (rules ≡ rules_as q k boxes rules)
   unfolding mark_as step_as rules_as
-  step_faulty quiet x e = let z : ◌≡◌ {A = ℕ} 0 1 = cc in absurd (omega arith)
-  step_faulty (fires r) x e = let z : ◌≡◌ {A = ℕ} 0 1 = cc in absurd (omega arith)
-  step_faulty (faulty y) x e = let z : x ≡ y = cc in (ap step.Fault z, refl)
+  step_faulty quiet x e = absurd cc
+  step_faulty (fires r) x e = absurd cc
+  step_faulty (faulty y) x e = let z : x ≡ y = cc in (ap Err z, refl)
 
-  pub step_fires : (q : Mark) (r : RuleId) {y : ℕ} {rs : List ℕ} → tried.Fires r ≡ mark_as q → y ≡ set' + 2 ^ k → rs ≡ with_rule k boxes r.0 rules → (step.Go y ≡ step_as q k set') × (rs ≡ rules_as q k boxes rules)
+  pub step_fires : (q : Mark) (r : RuleId) {y : ℕ} {rs : List ℕ} → Ok (Some r) ≡ mark_as q → y ≡ set' + 2 ^ k → rs ≡ with_rule k boxes r.0 rules → (Ok y ≡ step_as q k set') × (rs ≡ rules_as q k boxes rules)
   unfolding mark_as step_as rules_as
-  step_fires quiet r e f g = let z : ◌≡◌ {A = ℕ} 0 1 = cc in absurd (omega arith)
-  step_fires (fires x) r e f g = let z : r.0 ≡ x = cc in (ap step.Go f, g ∙ ap (λ (j : ℕ). with_rule k boxes j rules) z)
-  step_fires (faulty x) r e f g = let z : ◌≡◌ {A = ℕ} 0 1 = cc in absurd (omega arith)
+  step_fires quiet r e f g = absurd cc
+  step_fires (fires x) r e f g = let z : r.0 ≡ x = cc in (ap Ok f, g ∙ ap (λ (j : ℕ). with_rule k boxes j rules) z)
+  step_fires (faulty x) r e f g = absurd cc
 
 pub many_as : (q : Mark) (k boxes : ℕ) (rules : List ℕ) {rs : List ℕ} → rs ≡ rules_as q k boxes rules → length rs ≡ length rules
 unfolding rules_as with_rule
@@ -107,7 +105,7 @@ module _ (n : Net) (s : State) where
     after : suc k ≡ k + 1
     after = omega arith
 
-    pub so_far_fault : (x : ℕ) → m k ≡ faulty x → finding n s ≡ broken k x
+    pub so_far_fault : (x : Fault) → m k ≡ faulty x → finding n s ≡ broken k x
     unfolding fault_in blame
     so_far_fault x e = sym h.fault ∙ ap (λ (ks : List ℕ). fault_in m ks (any_mark (marked_of n s))) next_up ∙ rw e
 
@@ -191,22 +189,22 @@ module _ (n : Net) (s : State) where
         go (yes q) = let b = w.inside k q in rw b.1
         go (no q) = w.outside k quiet (omega (arith, q)) l
 
-    pub so_far_go : (y : ℕ) (rules' : List ℕ) → step.Go y ≡ step_as (m k) k set' → rules' ≡ rules_as (m k) k boxes rules → SoFar p (k + 1) y rules'
+    pub so_far_go : (y : ℕ) (rules' : List ℕ) → Ok y ≡ step_as (m k) k set' → rules' ≡ rules_as (m k) k boxes rules → SoFar p (k + 1) y rules'
     unfolding step_as rules_as
     so_far_go y rules' e f = go (m k) refl (e ∙ refl) (f ∙ refl)
       where
-        go : (q : Mark) → m k ≡ q → step.Go y ≡ step_as q k set' → rules' ≡ rules_as q k boxes rules → SoFar p (k + 1) y rules'
+        go : (q : Mark) → m k ≡ q → Ok y ≡ step_as q k set' → rules' ≡ rules_as q k boxes rules → SoFar p (k + 1) y rules'
         go quiet g e' f' = let z : y ≡ set' = cc in rw (z, f') (so_far_quiet p k set' rules h l g quiet_rule)
         go (fires r) g e' f' = let z : y ≡ set' + 2 ^ k = cc in rw (z, f') (so_far_fires p k set' rules h l r boxes g few (in-box r) (λ q. w.outside k (fires r) q l))
-        go (faulty x) g e' f' = let z : ◌≡◌ {A = ℕ} 0 1 = cc in absurd (omega arith)
+        go (faulty x) g e' f' = absurd cc
 
-    pub so_far_broken : (x : ℕ) → step.Fault x ≡ step_as (m k) k set' → finding n s ≡ broken k x
+    pub so_far_broken : (x : Fault) → Err x ≡ step_as (m k) k set' → finding n s ≡ broken k x
     unfolding step_as
     so_far_broken x e = go (m k) refl e
       where
-        go : (q : Mark) → m k ≡ q → step.Fault x ≡ step_as q k set' → finding n s ≡ broken k x
-        go quiet g e' = let z : ◌≡◌ {A = ℕ} 0 1 = cc in absurd (omega arith)
-        go (fires r) g e' = let z : ◌≡◌ {A = ℕ} 0 1 = cc in absurd (omega arith)
+        go : (q : Mark) → m k ≡ q → Err x ≡ step_as q k set' → finding n s ≡ broken k x
+        go quiet g e' = absurd cc
+        go (fires r) g e' = absurd cc
         go (faulty y) g e' = let z : x ≡ y = cc in so_far_fault p k set' rules h l x (g ∙ ap faulty (sym z))
 
   -- past the last process there is no box

@@ -1,12 +1,12 @@
 -- The first processes of an accepted network are its boxes.
 -- Assumes nothing.
-use mathlib.Core.Path.{◌≡◌, refl, sym, ap, ◌∙◌, subst}
+use mathlib.Core.Path.{◌≡◌, ap, ◌∙◌}
 use mathlib.Core.List.{List}
 use Prim.Native.Nat.{ℕ, ◌+◌, ◌-◌, ◌≤◌, ◌<◌}
 use native.Mathlib.Omega.{arith}
 use native.Mathlib.Decide.{dec_lt}
-use lib.ListN.{length, get_or}
-use Rattle.model.specs.Network.{Proc, box, input, output, Net, proc}
+use lib.ListN.{length}
+use Rattle.model.specs.Network.{Proc, proc}
 use Rattle.model.specs.NetworkFile.{Index, box_at, input_at, output_at}
 use Rattle.model.specs.Cycles.{Mark, box_rule}
 use Rattle.model.proofs.Lookup.{box_proc, input_proc, output_proc, procs_length}

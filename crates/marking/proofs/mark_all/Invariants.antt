@@ -1,11 +1,7 @@
-use Prim.Native.Nat.{◌-◌, ◌≤◌}
-use borrow.Author.Rules.{rules}
-use Rattle.places.specs.Standing.{net_in, state_of}
+use Rattle.places.specs.Views.{net_at, state_at}
 use Rattle.marking.proofs.Noting.{SoFar}
 use Rattle.marking.proofs.mark_all.Given as goal
 
+-- the processes before k are noted
 abbrev pub invariant-loop-k : goal.invariant-loop-k
-invariant-loop-k l = (l.k ≤ l.total) × SoFar (net_in l.net l.table l.c l.tokens) (state_of l.net l.table l.c l.tokens l.state) l.total l.k l.set l.rules
-
-abbrev pub decreases-loop-k : goal.decreases-loop-k
-decreases-loop-k l = l.total - l.k
+invariant-loop-k l = SoFar (net_at l.feed.site) (state_at l.feed.site l.state) l.total l.k l.set l.rules

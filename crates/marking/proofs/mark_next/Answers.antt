@@ -1,22 +1,21 @@
-use mathlib.Core.Path.{sym, ◌∙◌}
-use native.Mathlib.Omega.{arith}
+use mathlib.Core.Path.{sym, ap, ◌∙◌}
+use Rattle.std.specs.Prelude.{Ok}
+use Rattle.std.proofs.lemmas.Result.{err_from_is_err_and}
 use Rattle.marking.proofs.Noting.{step_quiet, step_faulty, step_fires}
 use Rattle.marking.proofs.mark_next.Goals as goal
 
-pub mark_of-requires : goal.mark_of-requires
-mark_of-requires c = let q = c.requires in record { standing = q.standing; fields = q.fields; k_bound = q.k_bound }
+pub returns-in_err-rule : goal.returns-in_err-rule
+returns-in_err-rule c =
+    let e = err_from_is_err_and c.from_residual.result c.from_residual.ensures.1 in
+    let n = step_faulty _ _ _ _ _ _ (sym c.in_err-rule.was ∙ c.mark_of.ensures) in
+    record { marked = rw (e.1, e.2) n.0; numbers = n.1 }
 
-pub noted-requires : goal.noted-requires
-noted-requires c =
-    let q = c.requires in
-    let w = q.standing.tabled.within in
-    record { k_bound = (omega (arith, q.k_bound, w.boxes, w.inputs, w.outputs), q.set_bound.0); boxes_bound = (w.boxes, q.set_bound.1) }
+pub returns-in_default : goal.returns-in_default
+returns-in_default c =
+    let n = step_quiet _ _ _ _ _ (ap Ok (sym c.in_default.is) ∙ sym c.in_ok-rule.was ∙ c.mark_of.ensures) in
+    record { marked = n.0; numbers = n.1 }
 
-pub returns-in-Quiet : goal.returns-in-Quiet
-returns-in-Quiet c = step_quiet _ _ _ _ _ (sym c.in-Quiet.is ∙ c.mark_of.ensures)
-
-pub returns-in-Faulty : goal.returns-in-Faulty
-returns-in-Faulty c = step_faulty _ _ _ _ _ _ (sym c.in-Faulty.is ∙ c.mark_of.ensures)
-
-pub returns-in-Fires : goal.returns-in-Fires
-returns-in-Fires c = let n = c.noted.ensures in step_fires _ _ _ _ _ _ (sym c.in-Fires.is ∙ c.mark_of.ensures) n.0 n.1
+pub returns : goal.returns
+returns c =
+    let n = step_fires _ _ _ _ _ _ (ap Ok (sym c.in-Some.is) ∙ sym c.in_ok-rule.was ∙ c.mark_of.ensures) c.noted.ensures.0 c.noted.ensures.1 in
+    record { marked = n.0; numbers = n.1 }
