@@ -8,22 +8,22 @@ use native.Mathlib.Omega.{arith}
 use lib.IntN.{ℤ, pos}
 use lib.ListN.{length, get_or}
 use lib.Signed.{mag}
+use Rattle.std.specs.Prelude.{Some}
 use Rattle.model.specs.Expressions.{Env}
 use Rattle.model.specs.Rules.{Rule, Pattern, Action, rule_read, read_rule, matched_types}
-use Rattle.model.specs.Network.{Box, Net, State, box, vars, rule, own, vars_of, ins_of, outs_of, shape_of}
+use Rattle.model.specs.Network.{Box, Net, State, vars, rule, own, vars_of, ins_of, outs_of, shape_of}
 use Rattle.model.specs.NetworkFile.{Index, body_at, box_of, wires_of, shape_at, box_at, rule_at, net_of}
 use Rattle.model.specs.Cycles.{Deed, reads, look, moves, env_of, result, new_vars, reads_of, sent_of, kept_of, deed_of, act}
 use Rattle.expressions.specs.Reading.{is_read, skip_to}
 use Rattle.shapes.specs.Shapes.{wires_in, types_in, shape_in}
 use Rattle.shapes.specs.declared.Arity.{Arity}
 use Rattle.rules.specs.declared.Parts.{Parts}
-use Rattle.rules.specs.declared.Layout.TheVariants as layout
 use Rattle.rules.specs.Bodies.{patterns_from, layout_of, Parted, outs_at}
 use Rattle.rules.proofs.Laying.{Laid, laid}
 use Rattle.types.specs.Scopes.{scope_in}
 use Rattle.typing.specs.Fits.{list_read, scope_read, Agree, Kept}
 use Rattle.typing.proofs.Wholes.{ins_read}
-use Rattle.evaluation.specs.Envs.{env_in}
+use Rattle.evaluation.specs.Envs.{env_in, EnvFits}
 use Rattle.table.specs.declared.Counts.{Counts}
 use Rattle.table.specs.Table.{index_in}
 use Rattle.places.specs.Standing.{net_in, Standing, state_of}
@@ -121,7 +121,7 @@ module _ (s t p ts b : List ℕ) (c : Counts) (h : Standing s t p ts b c) (k : �
     limits : Kept a q body
     limits =
         let w = boxes.parts_here s t c h.tabled k l o e ins outs vs a d r m in
-        let f : layout.Whole q ≡ layout.Whole w.parts = sym whole_parts.whole ∙ ap (layout_of a) eb ∙ w.whole in
+        let f : Some q ≡ Some w.parts = sym whole_parts.whole ∙ ap (layout_of a) eb ∙ w.whole in
         let g : q ≡ w.parts = cc in
         rw (g, eb) (boxes.kept_here s t c h.tabled k l o e ins outs vs a d r m)
 
@@ -137,6 +137,9 @@ module _ (s t p ts b : List ℕ) (c : Counts) (h : Standing s t p ts b c) (k : �
 
       small : (i : ℕ) → mag (get_or vals i (pos 0)) ≤ 2 ^ 31
       small i = omega (arith, g.small i)
+
+      pub env_fits : EnvFits vals types
+      env_fits = settling.fits_in_lem a ins vs body ready types f vals small
 
       abbrev en : Env
       en = env_of n its ru (look st its.ins (map reads ru.ins)) old
@@ -186,7 +189,6 @@ module _ (s t p ts b : List ℕ) (c : Counts) (h : Standing s t p ts b c) (k : �
             vars = (ready.few_vars, its_vars ∙ sym (vars_many s t p ts b c h k l));
             sends = subst (Ready (scope_in types) false body a.outs) (sym from_is) works_out.outs;
             sets = subst (Ready (scope_in types) true body a.vars) (sym sets_is) works_out.sets;
-            env = settling.fits_in_lem a ins vs body ready types f vals small;
             held = g.vars;
             sound = y';
           }

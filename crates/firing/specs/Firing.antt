@@ -10,7 +10,6 @@ use Rattle.expressions.specs.Reading.{skip_to}
 use Rattle.shapes.specs.declared.Arity.{Arity}
 use Rattle.rules.specs.Bodies.{actions_from}
 use Rattle.types.specs.Scopes.{scope_in}
-use Rattle.evaluation.specs.Envs.{EnvFits}
 use Rattle.table.specs.declared.Counts.{Counts}
 use Rattle.actions.proofs.Acting.{Ready}
 use Rattle.taking.specs.Reading.{read_from, CanRead}
@@ -60,6 +59,5 @@ pub record Works (c : Counts) (n : Net) (s : State) (b : Box) (k : ℕ) (a : Ari
   pub vars : (a.vars ≤ 4) × (a.vars ≡ length (vars_of (own s k)))
   pub sends : Ready (scope_in types) false body a.outs from
   pub sets : Ready (scope_in types) true body a.vars (sets_from a from body)
-  pub env : EnvFits vals types
   pub held : (j : ℕ) → j < length (vars_of (own s k)) → get_or vals (4 + j) (pos 0) ≡ get_or (vars_of (own s k)) j (pos 0)
   pub sound : Sound n s k (deed_in b a from body vals types k s)

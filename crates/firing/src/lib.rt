@@ -1,101 +1,79 @@
 #![tactic(auto)]
 
 // One firing of a process under the rule that was chosen at the cycle's start, in place on the lent state.
-ghost use Rattle.model.specs.NetworkFile.{box_at};
-ghost use Rattle.model.specs.Cycles.{act};
-ghost use Rattle.table.specs.Table.{index_in};
-ghost use Rattle.places.specs.Standing.{Standing, net_in, state_of};
-ghost use Rattle.moves.specs.Moves.{Became};
-ghost use Rattle.token_file.specs.Fields.{Fields};
+ghost use Rattle.lookup.specs.Views.{box_in};
+ghost use Rattle.places.specs.Views.{net_at, state_at, Stands};
+ghost use Rattle.moves.specs.Views.{Becomes};
 ghost use Rattle.taking.specs.Taking.{fired};
-ghost use Rattle.firing.specs.Firing.{BoxReady, Chosen, deed_in, Works};
+ghost use Rattle.firing.specs.Firing.{BoxReady, Chosen};
+ghost use Rattle.firing.specs.Views.{CanAct, acted};
 
+use evaluation::Env;
 use model::{ProcessId, RuleId};
+use places::Site;
+use putting::Actor;
 use shapes::Arity;
-use table::Counts;
+use token_file::Feed;
 
-// What a rule's body says, whose output actions begin at an offset, done by box k: tokens taken, then results put, then new values kept.
-fn apply(
-    net: &[u8],
-    table: &[u16],
-    c: Counts,
-    starts: &[u16],
-    tokens: &[u8],
-    k: ProcessId,
-    body: &[u8],
-    a: Arity,
-    from: usize,
-    vals: &[i64; 8],
-    types: &[u8; 16],
-    state: &mut [u8],
-)
-    requires standing { Standing net.now table.now starts.now tokens.now state.old c }
-    requires works { Works c (net_in net.now table.now c tokens.now) (state_of net.now table.now c tokens.now state.old) (box_at net.now (index_in table.now c) k.0) k.0 a from body.now vals.now types.now }
-    ensures { Became net.now table.now starts.now tokens.now state.old c state.new (act k.0 (deed_in (box_at net.now (index_in table.now c) k.0) a from body.now vals.now types.now k.0 (state_of net.now table.now c tokens.now state.old)) (state_of net.now table.now c tokens.now state.old)) }
+// What a rule's body says, whose output actions begin at an offset, done by its box: tokens taken, then results put, then new values kept.
+fn apply(actor: &Actor, a: Arity, from: usize, state: &mut [u8])
+    requires standing { Stands actor.now.site.now state.old }
+    requires can_act { CanAct actor.now state.old a from }
+    ensures { Becomes actor.now.site.now state.old state.new (acted actor.now state.old a from) }
 {
-    taking::take_read(net, table, c, starts, tokens, k, body, state);
-    let next = putting::put_sent(
-        net, table, c, starts, tokens, k, body, from, a.outs, vals, types, state,
-    );
-    putting::keep_new(
-        net, table, c, starts, tokens, k, body, next, a.vars, vals, types, state,
-    );
+    taking::take_read(actor.site, actor.k, actor.body, state);
+    let next = actor.put_sent(from, a.outs, state);
+    actor.keep_new(next, a.vars, state);
 }
 
 // Box k fires under rule r: its shape, where the rule's actions begin, its types, and the values that it sees, all from before anything is taken.
-pub fn fire_box(
-    net: &[u8],
-    table: &[u16],
-    c: Counts,
-    starts: &[u16],
-    tokens: &[u8],
-    k: ProcessId,
-    r: RuleId,
-    state: &mut [u8],
-)
-    requires standing { Standing net.now table.now starts.now tokens.now state.old c }
-    requires box_ready { BoxReady (box_at net.now (index_in table.now c) k.0) c (net_in net.now table.now c tokens.now) (state_of net.now table.now c tokens.now state.old) k.0 r.0 }
-    ensures { Became net.now table.now starts.now tokens.now state.old c state.new (fired (net_in net.now table.now c tokens.now) k.0 r.0 (state_of net.now table.now c tokens.now state.old)) }
+pub fn fire_box(site: &Site, k: ProcessId, r: RuleId, state: &mut [u8])
+    requires standing { Stands site.now state.old }
+    requires box_ready { BoxReady (box_in site.now.plan.net k.0) site.now.plan.net.counts (net_at site.now) (state_at site.now state.old) k.0 r.0 }
+    ensures { Becomes site.now state.old state.new (fired (net_at site.now) k.0 r.0 (state_at site.now state.old)) }
 {
+    let net = &site.plan.net;
     let mut ins = [0u8; 8];
     let mut outs = [0u8; 8];
     let mut vars = [0u8; 8];
-    let at = lookup::box_at(net, table, c, k);
-    let a = shapes::shape_of(net, table, c.wires, at, &mut ins, &mut outs, &mut vars);
-    let body = lookup::rule_body(net, table, c, k, r);
+    let at = net.box_at(k);
+    let a = shapes::shape_of(
+        net.file,
+        net.table,
+        net.counts.wires,
+        at,
+        &mut ins,
+        &mut outs,
+        &mut vars,
+    );
+    let body = net.rule_body(k, r);
     let from = trying::actions_at(body, a);
     let types = typing::scope(body, &ins, &vars, a);
-    let vals = sights::values(net, table, c, starts, tokens, k, state);
-    apply(
-        net, table, c, starts, tokens, k, body, a, from, &vals, &types, state,
-    );
+    let vals = sights::values(site, k, state);
+    let env = Env { types, vals };
+    let actor = Actor {
+        site,
+        k,
+        body,
+        env: &env,
+    };
+    apply(&actor, a, from, state);
 }
 
 // Process k fires, a box under rule r; an input and an output have one way to fire.
-pub fn fire(
-    net: &[u8],
-    table: &[u16],
-    c: Counts,
-    starts: &[u16],
-    tokens: &[u8],
-    fields: &[u16],
-    k: ProcessId,
-    r: RuleId,
-    state: &mut [u8],
-)
-    requires standing { Standing net.now table.now starts.now tokens.now state.old c }
-    requires fields { Fields net.now table.now tokens.now fields.now c }
-    requires chosen { Chosen c (net_in net.now table.now c tokens.now) (state_of net.now table.now c tokens.now state.old) k.0 r.0 }
-    ensures { Became net.now table.now starts.now tokens.now state.old c state.new (fired (net_in net.now table.now c tokens.now) k.0 r.0 (state_of net.now table.now c tokens.now state.old)) }
+pub fn fire(feed: &Feed, k: ProcessId, r: RuleId, state: &mut [u8])
+    requires standing { Stands feed.now.site state.old }
+    requires chosen { Chosen feed.now.site.plan.net.counts (net_at feed.now.site) (state_at feed.now.site state.old) k.0 r.0 }
+    ensures { Becomes feed.now.site state.old state.new (fired (net_at feed.now.site) k.0 r.0 (state_at feed.now.site state.old)) }
 {
+    let site = &feed.site;
+    let c = site.plan.net.counts;
     let i = usize::from(k.0);
     if i < c.boxes {
-        fire_box(net, table, c, starts, tokens, k, r, state);
-        return;
+        fire_box(site, k, r, state);
+    } else if i < c.boxes + c.inputs {
+        taking::fire_input(feed, k, state);
+    } else {
+        taking::fire_output(site, k, state);
     }
-    if i < c.boxes + c.inputs {
-        taking::fire_input(net, table, c, starts, tokens, fields, k, state);
-        return;
-    }
-    taking::fire_output(net, table, c, starts, tokens, k, state);
 }

@@ -3,39 +3,20 @@ use Rattle.firing.proofs.Choosing.{as_box, as_input, input_done, as_output, outp
 use Rattle.firing.proofs.fire.Goals as goal
 
 pub fire_box-requires : goal.fire_box-requires
-fire_box-requires c =
-    let wide = c in
-    let q = wide.requires in
-    record { standing = q.standing; box_ready = as_box _ _ _ _ _ _ q.standing _ _ q.chosen (omega (arith, wide.wide-i.ensures.0, c.if-i-c.true)) }
+fire_box-requires c = let q = c.requires in record { standing = q.standing; box_ready = as_box _ _ _ _ _ _ q.standing _ _ q.chosen (omega (arith, c.if-i-c.true)) }
 
 pub fire_input-requires : goal.fire_input-requires
 fire_input-requires c =
-    let first = c in
-    let wide = first in
-    let q = wide.requires in
-    record { standing = q.standing; fields = q.fields; input_ready = as_input _ _ _ _ _ _ q.standing _ _ q.chosen (omega (arith, wide.wide-i.ensures.0, first.if-i-c.false)) (omega (arith, wide.wide-i.ensures.0, c.if-i-c-2.true)) }
+    let q = c.requires in
+    record { standing = q.standing; input_ready = as_input _ _ _ _ _ _ q.standing _ _ q.chosen (omega (arith, c.if-i-c.false)) (omega (arith, c.if-i-c-2.true)) }
 
 pub returns-then-i-c-2 : goal.returns-then-i-c-2
 returns-then-i-c-2 c =
-    let done = c in
-    let second = done in
-    let first = second in
-    let wide = first in
-    let q = wide.requires in
-    input_done _ _ _ _ _ _ q.standing _ _ q.chosen (omega (arith, wide.wide-i.ensures.0, first.if-i-c.false)) (omega (arith, wide.wide-i.ensures.0, second.if-i-c-2.true)) _ done.fire_input.ensures
+    let q = c.requires in
+    input_done _ _ _ _ _ _ q.standing _ _ q.chosen (omega (arith, c.if-i-c.false)) (omega (arith, c.if-i-c-2.true)) _ c.fire_input.ensures
 
 pub fire_output-requires : goal.fire_output-requires
-fire_output-requires c =
-    let first = c in
-    let wide = first in
-    let q = wide.requires in
-    record { standing = q.standing; output_ready = as_output _ _ _ _ _ _ q.standing _ _ q.chosen (omega (arith, wide.wide-i.ensures.0, c.if-i-c-2.false)) }
+fire_output-requires c = let q = c.requires in record { standing = q.standing; output_ready = as_output _ _ _ _ _ _ q.standing _ _ q.chosen (omega (arith, c.if-i-c-2.false)) }
 
-pub returns : goal.returns
-returns c =
-    let done = c in
-    let second = done in
-    let first = second in
-    let wide = first in
-    let q = wide.requires in
-    output_done _ _ _ _ _ _ q.standing _ _ q.chosen (omega (arith, wide.wide-i.ensures.0, second.if-i-c-2.false)) _ done.fire_output.ensures
+pub returns-else-i-c-2 : goal.returns-else-i-c-2
+returns-else-i-c-2 c = let q = c.requires in output_done _ _ _ _ _ _ q.standing _ _ q.chosen (omega (arith, c.if-i-c-2.false)) _ c.fire_output.ensures
