@@ -1,57 +1,55 @@
 -- What the opening of a call finds: all that the next step asks for, or the refusal that the call answers.
 -- Assumes nothing.
-use Rattle.std.specs.Prelude.{ℕ, ◌≤◌, ◌≡◌, Bool, true, List, length}
-use Rattle.model.specs.declared.CheckAnswer.{CheckAnswer}
-use Rattle.model.specs.declared.CheckAnswer.TheVariants as answer
+use Rattle.std.specs.Prelude.{ℕ, ◌≡◌, true, List, Result, Ok, Err, ⊤}
+use Rattle.model.specs.declared.Refusal.{Refusal}
+use Rattle.model.specs.Reasons.{reason_number}
 use Rattle.model.specs.NetworkFile.{Verdict, good, refuse, next, network}
-use Rattle.model.specs.States.{token_file, input_types, state_size, state_fits}
+use Rattle.model.specs.States.{token_file, input_types}
 use Rattle.model.specs.Calls.{with_tokens, held}
-use Rattle.table.specs.declared.Counts.{Counts}
-use Rattle.lookup.specs.Tabled.{Tabled}
-use Rattle.places.specs.Places.{Placed}
-use Rattle.places.specs.Standing.{bare_net, tokens_of, net_in, Standing}
-use Rattle.token_file.specs.Fields.{Fields}
-use Rattle.opening.specs.declared.Opened.{Opened}
-use Rattle.opening.specs.declared.Opened.TheVariants as opened
+use Rattle.lookup.specs.Views.{network_of}
+use Rattle.places.specs.declared.Plan.{Plan}
+use Rattle.places.specs.declared.Site.{Site}
+use Rattle.places.specs.Standing.{tokens_of}
+use Rattle.places.specs.Views.{Stands}
+use Rattle.token_file.specs.declared.Feed.{Feed}
+use Rattle.states.specs.declared.Basis.{Basis}
+use Rattle.states.specs.Saved.{network_for, counted, Holds}
 
--- network file s is accepted: table t with counts c, starts p, the size of its state
-pub record Open (s t p : List ℕ) (c : Counts) (size : ℕ) : Type 0 where
-  pub tabled : Tabled s t c
-  pub placed : Placed (bare_net s t c) p
-  pub sized : size ≡ state_size (bare_net s t c)
+-- what a refusal says of a check
+abbrev pub Refuses : {A : Type 0} → Verdict A → Refusal → Type 0
+Refuses v r = v ≡ refuse (reason_number r.reason) r.place
 
--- and token file ts is, its fields noted in f
-pub record OpenWith (s ts t p f : List ℕ) (c : Counts) (size : ℕ) : Type 0 where
-  pub net : Open s t p c size
-  pub tokens : token_file (input_types (bare_net s t c) (bare_net s t c).procs) ts ≡ good (tokens_of s t c ts)
-  pub fields : Fields s t ts f c
+-- the token file of a site is accepted
+abbrev pub Accepted : Site → Type 0
+Accepted x = let n = x.plan.net in token_file (input_types (network_of n) (network_of n).procs) x.tokens.now ≡ good (tokens_of n.file.now n.table.now n.counts x.tokens.now)
+
+-- network file s and token file ts are accepted
+pub record OpenFiles (s ts : List ℕ) (f : Feed) : Type 0 where
+  pub net : f.site.plan.net.file.now ≡ s
+  pub tokens : f.site.tokens.now ≡ ts
+  pub accepted : Accepted f.site
+
+-- and the lent bytes b stand for a state
+pub record OpenState (s ts b : List ℕ) (f : Feed) : Type 0 where
+  pub files : OpenFiles s ts f
+  pub standing : Stands f.site b
 
 -- 1 to 4
-unfoldable pub NetworkOpened : List ℕ → List ℕ → List ℕ → Opened → Type 0
-NetworkOpened s t p (opened.Good c size) = Open s t p c size
-NetworkOpened s t p (opened.Refused r) = network s ≡ refuse r.number r.place
+unfoldable pub NetworkOpened : List ℕ → Result Plan Refusal → Type 0
+NetworkOpened s (Ok p) = p.net.file.now ≡ s
+NetworkOpened s (Err r) = Refuses (network s) r
 
 -- 1 to 5
-unfoldable pub FilesOpened : List ℕ → List ℕ → List ℕ → List ℕ → List ℕ → Opened → Type 0
-FilesOpened s ts t p f (opened.Good c size) = OpenWith s ts t p f c size
-FilesOpened s ts t p f (opened.Refused r) = with_tokens s ts ≡ refuse r.number r.place
-
--- the lent bytes b hold a state
-pub record Fitting (s t ts : List ℕ) (c : Counts) (counted : Bool) (b : List ℕ) : Type 0 where
-  pub long : state_size (net_in s t c ts) ≤ length b
-  pub fits : state_fits (net_in s t c ts) counted b ≡ true
+unfoldable pub FilesOpened : List ℕ → List ℕ → Result Feed Refusal → Type 0
+FilesOpened s ts (Ok f) = OpenFiles s ts f
+FilesOpened s ts (Err r) = Refuses (with_tokens s ts) r
 
 -- 6 and 7
-unfoldable pub Held : List ℕ → List ℕ → List ℕ → Counts → Bool → List ℕ → CheckAnswer → Type 0
-Held s t ts c counted b answer.Accepted = Fitting s t ts c counted b
-Held s t ts c counted b (answer.Refused r) = held counted b (net_in s t c ts) ≡ refuse r.number r.place
-
--- the files are accepted, and the lent bytes b stand for a state
-pub record OpenState (s ts t p f b : List ℕ) (c : Counts) (size : ℕ) : Type 0 where
-  pub files : OpenWith s ts t p f c size
-  pub standing : Standing s t p ts b c
+unfoldable pub Held : Basis → List ℕ → Result ⊤ Refusal → Type 0
+Held x b (Ok u) = Holds (network_for x) (counted x) b
+Held x b (Err r) = Refuses (held (counted x) b (network_for x)) r
 
 -- 1 to 7
-unfoldable pub StateOpened : List ℕ → List ℕ → List ℕ → List ℕ → List ℕ → List ℕ → Opened → Type 0
-StateOpened s ts t p f b (opened.Good c size) = OpenState s ts t p f b c size
-StateOpened s ts t p f b (opened.Refused r) = next (with_tokens s ts) (held true b) ≡ refuse r.number r.place
+unfoldable pub StateOpened : List ℕ → List ℕ → List ℕ → Result Feed Refusal → Type 0
+StateOpened s ts b (Ok f) = OpenState s ts b f
+StateOpened s ts b (Err r) = Refuses (next (with_tokens s ts) (held true b)) r

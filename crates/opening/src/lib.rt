@@ -2,128 +2,109 @@
 
 // The opening of a call: the checks of its files and of the lent state, in the order of document 01.
 ghost use Rattle.std.specs.Prelude.{◌≤◌, length};
-ghost use Rattle.states.specs.Saved.{Known};
-ghost use Rattle.opening.specs.Opening.{Open, NetworkOpened, FilesOpened, Held, StateOpened};
+ghost use Rattle.opening.specs.Opening.{NetworkOpened, FilesOpened, Held, StateOpened};
 
-use index::Checked;
-use model::{CheckAnswer, Refusal};
-use table::Counts;
-use token_file::Tokens;
+use model::{Reason, Refusal};
+use places::{Plan, Site};
+use states::Basis;
+use token_file::Feed;
 
-// What is found: the counts of the filled table and the state's size, or a refusal.
-#[derive(Clone, Copy)]
-pub enum Opened {
-    Good { counts: Counts, size: usize },
-    Refused { refusal: Refusal },
+// What an opening fills: where the fields of a network file stand, where the parts of a state begin, and where the fields of a token file stand.
+#[derive(Drop)]
+pub struct Tables {
+    pub table: [u16; 656],
+    pub starts: [u16; 113],
+    pub fields: [u16; 8],
 }
 
-// The network file: its check, its table, and where each part of a state begins.
-pub fn open_network(net: &[u8], table: &mut [u16], starts: &mut [u16]) -> Opened
-    requires in_bounds { 656 ≤ length table.old }
-    requires in_bounds_2 { 113 ≤ length starts.old }
-    ensures { NetworkOpened net.now table.new starts.new result }
-{
-    match network::checked(net, table) {
-        Checked::Bad { number, place } => Opened::Refused {
-            refusal: Refusal { number, place },
-        },
-        Checked::Good(counts) => {
-            let size = places::places(net, &table[..], counts, starts);
-            Opened::Good { counts, size }
+impl Tables {
+    // Tables that are yet to be filled.
+    pub fn new() -> Tables {
+        Tables {
+            table: [0; 656],
+            starts: [0; 113],
+            fields: [0; 8],
         }
     }
 }
 
-// The network file and its token file: where each input's field begins is noted too.
-pub fn open_files(
-    net: &[u8],
-    tokens: &[u8],
-    table: &mut [u16],
-    starts: &mut [u16],
-    fields: &mut [u16],
-) -> Opened
-    requires in_bounds { 656 ≤ length table.old }
-    requires in_bounds_2 { 113 ≤ length starts.old }
-    requires in_bounds_3 { 8 ≤ length fields.old }
-    ensures { FilesOpened net.now tokens.now table.new starts.new fields.new result }
+// The network file: its check, its table, and where each part of a state begins.
+fn plan_of<'a>(
+    net: &'a [u8],
+    table: &'a mut [u16],
+    starts: &'a mut [u16],
+) -> Result<Plan<'a>, Refusal>
+    requires table_room { 656 ≤ length table.old }
+    requires starts_room { 113 ≤ length starts.old }
+    ensures { NetworkOpened net.now result }
 {
-    let r = open_network(net, table, starts);
-    let Opened::Good { counts, .. } = r else {
-        return r;
-    };
-    match token_file::token_file(net, &table[..], counts, tokens, fields) {
-        Tokens::Bad { place } => Opened::Refused {
-            refusal: Refusal { number: 5, place },
-        },
-        Tokens::Good => r,
-    }
+    let net = network::checked(net, table)?;
+    places::places(&net, starts);
+    Ok(Plan { net, starts })
 }
 
-// The lent state: long enough, and a state of the network; taken counts are looked at where they are counted.
-pub fn held(
-    net: &[u8],
-    table: &[u16],
-    c: Counts,
-    starts: &[u16],
-    size: usize,
-    tokens: &[u8],
-    fields: &[u16],
-    counted: bool,
-    state: &[u8],
-) -> CheckAnswer
-    requires fact { Open net.now table.now starts.now c size }
-    requires known { Known net.now table.now tokens.now fields.now c counted }
-    ensures { Held net.now table.now tokens.now c counted state.now result }
+// The network file of a call.
+pub fn open_network<'a>(net: &'a [u8], tables: &'a mut Tables) -> Result<Plan<'a>, Refusal>
+    ensures { NetworkOpened net.now result }
 {
+    let Tables { table, starts, .. } = tables;
+    plan_of(net, table, starts)
+}
+
+// The network file and its token file: where each input's field begins is noted too.
+pub fn open_files<'a>(
+    net: &'a [u8],
+    tokens: &'a [u8],
+    tables: &'a mut Tables,
+) -> Result<Feed<'a>, Refusal>
+    ensures { FilesOpened net.now tokens.now result }
+{
+    let Tables {
+        table,
+        starts,
+        fields,
+    } = tables;
+    let plan = plan_of(net, table, starts)?;
+    token_file::token_file(&plan.net, tokens, fields).map_err(|place| Refusal {
+        reason: Reason::Tokens,
+        place,
+    })?;
+    Ok(Feed {
+        site: Site { plan, tokens },
+        fields,
+    })
+}
+
+// The lent state: long enough, and a state of the network; taken counts are looked at where there is a token file.
+pub fn held(basis: &Basis, state: &[u8]) -> Result<(), Refusal>
+    ensures { Held basis.now state.now result }
+{
+    let size = states::size(basis.plan());
     if state.len() < size {
-        return CheckAnswer::Refused {
-            refusal: Refusal {
-                number: 6,
-                place: size,
-            },
-        };
+        return Err(Refusal {
+            reason: Reason::Space,
+            place: size,
+        });
     }
-    if !states::state_fits(net, table, c, starts, tokens, fields, counted, state) {
-        return CheckAnswer::Refused {
-            refusal: Refusal {
-                number: 7,
-                place: 0,
-            },
-        };
+    if !states::state_fits(basis, state) {
+        return Err(Refusal {
+            reason: Reason::State,
+            place: 0,
+        });
     }
-    CheckAnswer::Accepted
+    Ok(())
 }
 
 // The files and the lent state of a call that goes on with it: taken counts are looked at.
-pub fn open_state(
-    net: &[u8],
-    tokens: &[u8],
-    table: &mut [u16],
-    starts: &mut [u16],
-    fields: &mut [u16],
+pub fn open_state<'a>(
+    net: &'a [u8],
+    tokens: &'a [u8],
     state: &[u8],
-) -> Opened
-    requires in_bounds { 656 ≤ length table.old }
-    requires in_bounds_2 { 113 ≤ length starts.old }
-    requires in_bounds_3 { 8 ≤ length fields.old }
-    ensures { StateOpened net.now tokens.now table.new starts.new fields.new state.now result }
+    tables: &'a mut Tables,
+) -> Result<Feed<'a>, Refusal>
+    ensures { StateOpened net.now tokens.now state.now result }
 {
-    let r = open_files(net, tokens, table, starts, fields);
-    let Opened::Good { counts, size } = r else {
-        return r;
-    };
-    match held(
-        net,
-        &table[..],
-        counts,
-        &starts[..],
-        size,
-        tokens,
-        &fields[..],
-        true,
-        state,
-    ) {
-        CheckAnswer::Refused { refusal } => Opened::Refused { refusal },
-        CheckAnswer::Accepted => r,
-    }
+    let feed = open_files(net, tokens, tables)?;
+    held(&Basis::Files(feed), state)?;
+    Ok(feed)
 }
