@@ -47,7 +47,8 @@ module _ (k set' boxes : ℕ) (rules : List ℕ) where
   step_faulty (fires r) x e = absurd cc
   step_faulty (faulty y) x e = let z : x ≡ y = cc in (ap Err z, refl)
 
-  pub step_fires : (q : Mark) (r : RuleId) {y : ℕ} {rs : List ℕ} → Ok (Some r) ≡ mark_as q → y ≡ set' + 2 ^ k → rs ≡ with_rule k boxes r.0 rules → (Ok y ≡ step_as q k set') × (rs ≡ rules_as q k boxes rules)
+  pub step_fires : (q : Mark) (r : RuleId) {y : ℕ} {rs : List ℕ} → Ok (Some r) ≡ mark_as q → y ≡ set' + 2 ^ k → rs ≡ with_rule k boxes r.0 rules
+      → (Ok y ≡ step_as q k set') × (rs ≡ rules_as q k boxes rules)
   unfolding mark_as step_as rules_as
   step_fires quiet r e f g = absurd cc
   step_fires (fires x) r e f g = let z : r.0 ≡ x = cc in (ap Ok f, g ∙ ap (λ (j : ℕ). with_rule k boxes j rules) z)

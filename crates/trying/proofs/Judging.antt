@@ -70,7 +70,10 @@ module _ (a : Arity) (b : List ℕ) (types : List ℕ) (w : Workable a b types) 
   outs_ready at e = record { limits = ap (λ (k : ℕ). limits_of (actions_from false a.outs k b)) e ∙ w.kept.outs; typed = ap (all_typed (scope_in types)) (outs_is at e) ∙ w.judged.outs }
 
   pub sets_ready : (at : ℕ) → at ≡ p.sets → Ready (scope_in types) false b a.vars at
-  sets_ready at e = record { limits = ap limits_of (sets_too at e) ∙ ap (λ (k : ℕ). limits_of (actions_from true a.vars k b)) e ∙ w.kept.sets; typed = ap (all_typed (scope_in types)) (sets_is at e) ∙ w.judged.sets }
+  sets_ready at e = record {
+    limits = ap limits_of (sets_too at e) ∙ ap (λ (k : ℕ). limits_of (actions_from true a.vars k b)) e ∙ w.kept.sets;
+    typed = ap (all_typed (scope_in types)) (sets_is at e) ∙ w.judged.sets;
+  }
 
   module _ (en : Env) where
     -- the chosen rule: a fault of its outputs, a fault of its variables, none
@@ -102,7 +105,9 @@ module _ (a : Arity) (b : List ℕ) (types : List ℕ) (w : Workable a b types) 
 
       open_is : (x : ℕ) → x ≡ p.outs → outs_of full 0 x (actions_from false a.outs x b) ≡ cond (open_from full 0 ru.outs) (Some p.sets) None
       unfolding rule_is
-      open_is x e = ap (λ (k : ℕ). outs_of full 0 k (actions_from false a.outs k b)) e ∙ found_open w.laid.outs full ∙ ap (λ (r : Rule). cond (open_from full 0 r.outs) (Some p.sets) None) (sym rule_is_lem)
+      open_is x e =
+          ap (λ (k : ℕ). outs_of full 0 k (actions_from false a.outs k b)) e ∙ found_open w.laid.outs full
+          ∙ ap (λ (r : Rule). cond (open_from full 0 r.outs) (Some p.sets) None) (sym rule_is_lem)
 
       by_open : (x : ℕ) → x ≡ p.outs → (t : Bool) → open_from full 0 ru.outs ≡ t → outs_of full 0 x (actions_from false a.outs x b) ≡ cond t (Some p.sets) None
       by_open x e t q = open_is x e ∙ rw q

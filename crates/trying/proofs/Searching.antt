@@ -79,7 +79,8 @@ unfolding guarded renumber
 number_guarded k en r (Err x) = refl
 number_guarded k en r (Ok v) =
     number_if k (is_true v.value) (chosen en r 0)
-    ∙ ap (attempt (is_true v.value)) (ap (renumber k) (chosen_faults en r 0) ∙ number_or k (faults_of en r.outs) _ ∙ ap (mark_or (faults_of en r.outs)) (number_or k (faults_of en r.sets) (fires 0)) ∙ sym (chosen_faults en r k))
+    ∙ ap (attempt (is_true v.value))
+    (ap (renumber k) (chosen_faults en r 0) ∙ number_or k (faults_of en r.outs) _ ∙ ap (mark_or (faults_of en r.outs)) (number_or k (faults_of en r.sets) (fires 0)) ∙ sym (chosen_faults en r k))
 
 module _ (en : Env) (full : List ℕ) (r : Rule) (k : ℕ) where
   number_judged : renumber k (judge_of en full r 0) ≡ judge_of en full r k

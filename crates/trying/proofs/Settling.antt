@@ -63,6 +63,7 @@ module _ (a : Arity) (ins vars b : List ℕ) (w : Ruled a ins vars b) where
       vars = λ i e. refl;
     }
 
-    pub settled_as : {q : Result Bool Fault} (full : List ℕ) (vals : List ℤ) → q ≡ judged_as (judge_of (env_in vals types) full r 0) → q ≡ judged_as (judge_of (view_env (types_in ins a.ins) (types_in vars a.vars) vals r) full r 0)
+    pub settled_as : {q : Result Bool Fault} (full : List ℕ) (vals : List ℤ) → q ≡ judged_as (judge_of (env_in vals types) full r 0)
+        → q ≡ judged_as (judge_of (view_env (types_in ins a.ins) (types_in vars a.vars) vals r) full r 0)
     unfolding env_in
     settled_as full vals e = e ∙ ap judged_as (judge_same (env_in vals types) _ (alike vals) full r judged_in 0)

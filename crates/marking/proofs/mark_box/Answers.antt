@@ -10,7 +10,11 @@ small l = omega (arith, l)
 pub shape_of-arity-requires : goal.shape_of-arity-requires
 shape_of-arity-requires c =
     let h = c.args.site.now.plan.net.tabled in
-    record { wires_in_bounds = omega (arith, h.within.wires, h.long); box_fits = box_ready _ _ _ h _ c.requires.k_lt_boxes _ c.box_at-at.ensures.0; in_bounds = (omega arith, omega arith, omega arith) }
+    record {
+      wires_in_bounds = omega (arith, h.within.wires, h.long);
+      box_fits = box_ready _ _ _ h _ c.requires.k_lt_boxes _ c.box_at-at.ensures.0;
+      in_bounds = (omega arith, omega arith, omega arith);
+    }
 
 pub search-requires : goal.search-requires
 search-requires c = record {

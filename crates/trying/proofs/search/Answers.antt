@@ -64,8 +64,13 @@ pattern_ready-requires c = (stands_here _ _ _ _ (ruled (goal.at.pattern_ready-re
 pub rules-preserved-then-not-pattern_ready : goal.rules-preserved-then-not-pattern_ready
 rules-preserved-then-not-pattern_ready c =
     let at = goal.at.rules-preserved-then-not-pattern_ready c in
-    let q = not_ready _ _ _ _ (ruled at.After-rule_body-body) _ _ _ _ c.loop-j.invariant c.loop-j-test.true _ c.in-Some.r (c.pattern_ready.ensures ∙ ap (matches _) c.token_at.ensures) c.if-not-pattern_ready.true in
-    record { end = c.in-Some.ensures.steps.0 ∙ c.rules.invariant.end; within = omega (arith, c.in-Some.ensures.steps, known at.In-Some); left = goes_on _ c.in-Some.ensures.steps.1.1 (known at.In-Some) c.rules.invariant.left c.in-Some.ensures.steps.1.2 (rw (same_body _ _ _ _ c.rule_body-body.ensures.bytes) q) }
+    let e = c.pattern_ready.ensures ∙ ap (matches _) c.token_at.ensures in
+    let q = not_ready _ _ _ _ (ruled at.After-rule_body-body) _ _ _ _ c.loop-j.invariant c.loop-j-test.true _ c.in-Some.r e c.if-not-pattern_ready.true in
+    record {
+      end = c.in-Some.ensures.steps.0 ∙ c.rules.invariant.end;
+      within = omega (arith, c.in-Some.ensures.steps, known at.In-Some);
+      left = goes_on _ c.in-Some.ensures.steps.1.1 (known at.In-Some) c.rules.invariant.left c.in-Some.ensures.steps.1.2 (rw (same_body _ _ _ _ c.rule_body-body.ensures.bytes) q);
+    }
 
 pub overflow_add-at : goal.overflow_add-at
 overflow_add-at c =
@@ -74,7 +79,9 @@ overflow_add-at c =
 
 pub loop-j-preserved : goal.loop-j-preserved
 loop-j-preserved c =
-    one_ready _ _ _ _ (ruled (goal.at.loop-j-preserved c).After-rule_body-body) _ _ _ _ c.loop-j.invariant c.loop-j-test.true _ _ (c.pattern_ready.ensures ∙ ap (matches _) c.token_at.ensures) c.if-not-pattern_ready.false c.byte_at.ensures c.pattern_size-at.ensures
+    let w = ruled (goal.at.loop-j-preserved c).After-rule_body-body in
+    let e = c.pattern_ready.ensures ∙ ap (matches _) c.token_at.ensures in
+    one_ready _ _ _ _ w _ _ _ _ c.loop-j.invariant c.loop-j-test.true _ _ e c.if-not-pattern_ready.false c.byte_at.ensures c.pattern_size-at.ensures
 
 pub settle-requires : goal.settle-requires
 settle-requires c =
@@ -85,7 +92,11 @@ pub rules-preserved : goal.rules-preserved
 rules-preserved c =
     let at = goal.at.rules-preserved c in
     let q = trial_quiet _ _ _ _ (ruled at.After-rule_body-body) _ _ _ _ c.loop-j.invariant c.loop-j-test.false _ c.in-Some.r (rw c.if-fires.false at (sym c.in_ok-fires.was ∙ c.settle.ensures)) in
-    record { end = c.in-Some.ensures.steps.0 ∙ c.rules.invariant.end; within = omega (arith, c.in-Some.ensures.steps, known at.In-Some); left = goes_on _ c.in-Some.ensures.steps.1.1 (known at.In-Some) c.rules.invariant.left c.in-Some.ensures.steps.1.2 (rw (same_body _ _ _ _ c.rule_body-body.ensures.bytes) q) }
+    record {
+      end = c.in-Some.ensures.steps.0 ∙ c.rules.invariant.end;
+      within = omega (arith, c.in-Some.ensures.steps, known at.In-Some);
+      left = goes_on _ c.in-Some.ensures.steps.1.1 (known at.In-Some) c.rules.invariant.left c.in-Some.ensures.steps.1.2 (rw (same_body _ _ _ _ c.rule_body-body.ensures.bytes) q);
+    }
 
 pub returns-in_default : goal.returns-in_default
 unfolding mark_as
