@@ -1,7 +1,7 @@
 #![tactic(auto)]
 
 // Network files checked and rule bodies looked up: reads rows (0 for a check or 1 for a body, box, rule, a length of two bytes, that many bytes of a file), prints each answer on a line.
-use model::{CheckAnswer, ProcessId, RuleId};
+use model::{ProcessId, RuleId};
 use reading::read_full;
 use std::io;
 
@@ -11,10 +11,8 @@ const MOST: usize = 65536;
 // Whether the file is accepted, else the refusal's number and place.
 fn print_check(rt: &impl Print, net: &[u8]) -> io::Result<()> {
     match network::check(net) {
-        CheckAnswer::Accepted => print!(rt; "ok"),
-        CheckAnswer::Refused { refusal } => {
-            print!(rt; "refused {} {}", refusal.number, refusal.place)
-        }
+        Ok(()) => print!(rt; "ok"),
+        Err(refusal) => print!(rt; "refused {} {}", refusal.reason.number(), refusal.place),
     }
 }
 
