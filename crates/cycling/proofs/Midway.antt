@@ -11,11 +11,11 @@ use lib.Seq.{get_or-set_other, drop-cons}
 use borrow.Author.Tests.{lt-ltb, le-ltb}
 use Rattle.model.specs.Network.{Net, vars, State, proc, own}
 use Rattle.model.specs.NetworkFile.{count}
-use Rattle.model.specs.Cycles.{Deed, Mark, fires, marked, flag, box_rule, mark, deed, act, fire, fire_all, cycle_in, up_from, rule_numbers}
+use Rattle.model.specs.Cycles.{Mark, fires, marked, flag, box_rule, mark, deed, act, fire, fire_all, cycle_in, up_from, rule_numbers}
 use Rattle.model.specs.Orders.{Order}
 use Rattle.model.proofs.Tests.{not-true}
 use Rattle.model.proofs.Order.{OneEach, Due, due_first, due_other, due_next, deed_frame, hit_same}
-use Rattle.model.proofs.Sound.{order_due, named_fires, flag_fires}
+use Rattle.model.proofs.Sound.{order_due, named_fires}
 use Rattle.model.proofs.Decoded.{GoodNet}
 use Rattle.model.proofs.Kept.{GoodDeed, GoodState, deed_good}
 use Rattle.table.specs.declared.Counts.{Counts}

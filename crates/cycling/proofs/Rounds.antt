@@ -10,18 +10,20 @@ use native.Mathlib.Nat.{sub-zero, zero-add}
 use lib.ListN.{length, drop}
 use Rattle.model.specs.declared.Ending.{Ending}
 use Rattle.model.specs.declared.Ending.TheVariants as ending
+use Rattle.std.specs.Prelude.{Option, Some, None, Result, Ok, Err}
 use Rattle.model.specs.declared.Refusal.{Refusal}
-use Rattle.model.specs.declared.MarkAnswer.{MarkAnswer}
-use Rattle.model.specs.declared.MarkAnswer.TheVariants as mark
-use Rattle.model.specs.declared.CycleAnswer.TheVariants as cycle
-use Rattle.model.specs.declared.RunAnswer.TheVariants as answer
+use Rattle.model.specs.declared.Fault.{Fault}
+use Rattle.model.specs.declared.Reason.TheVariants as reason
+use Rattle.model.specs.declared.Turn.TheVariants as turn
+use Rattle.model.specs.declared.Ran as answer
+use Rattle.model.specs.Reasons.{reason_number}
 use Rattle.model.specs.Network.{Net, State}
 use Rattle.model.specs.States.{bytes_of, state_size}
 use Rattle.model.specs.Cycles.{Mark, marked, keep_if, marked_from, marked_of, marked_set, up_from, processes, has, is_order, Finding, broken, still, moving, finding, cycle_in, Ended, run, stop, later, halt, proceed}
 use Rattle.model.specs.Cycles as cycles
-use Rattle.model.specs.Calls.{said_cycle, refusal, refused, keeps, leaves, done, idle, cycle_of, marks_of}
+use Rattle.model.specs.Calls.{After, said_cycle, refusal, refused, keeps, leaves, done, cycle_of, marks_of}
 use Rattle.model.specs.Orders.{Order}
-use Rattle.model.proofs.AnyOrder.{own_order, checked_order, calm-moving}
+use Rattle.model.proofs.AnyOrder.{own_order, checked_order}
 use Rattle.table.specs.declared.Counts.{Counts}
 use Rattle.places.specs.Standing.{net_in, Standing, state_of}
 use Rattle.places.proofs.Standing.{whole}
@@ -31,11 +33,9 @@ use Rattle.marking.specs.Noted.{marking_of}
 use Rattle.marking.proofs.Processes.{all_procs}
 use Rattle.taking.specs.Taking.{fired}
 use Rattle.firing.specs.Firing.{Chosen}
-use Rattle.cycling.specs.declared.Pass.{Pass}
-use Rattle.cycling.specs.declared.Pass.TheVariants as pass
 use Rattle.cycling.specs.Cycling.{rule_for, Told, cycle_as, pass_of, after_pass, ended_as}
 use Rattle.cycling.proofs.Midway.{Left, left_first, left_last, left_asks, left_next}
-use Rattle.cycling.proofs.Marked.{marked_here, has-marked, broken_known, at_rest, at_work, told, not_told}
+use Rattle.cycling.proofs.Marked.{marked_here, has-marked, broken_known, at_rest, at_work, Blamed, not_told}
 
 -- ── bytes that became a state ────────────────────────────────────────────────────────────────
 
@@ -110,8 +110,8 @@ module _ (s t p ts b : List ℕ) (c : Counts) (h : Standing s t p ts b c) where
   -- ── a cycle ──
 
   module _ (set : ℕ) (rules order : List ℕ) (q : Told n st set rules) where
-    pub order_bad : is_order set order ≡ false → cycle_as (cycle.Refused (record { number = 8; place = 0 })) b ≡ cycle_of b order n st (finding n st)
-    unfolding cycle_as said_cycle refusal cycle_of keeps
+    pub order_bad : is_order set order ≡ false → cycle_as (Err (record { reason = reason.Order; place = 0 })) b ≡ cycle_of b order n st (finding n st)
+    unfolding cycle_as said_cycle refusal reason_number cycle_of keeps
     order_bad e = go (finding n st) refl
       where
         f : is_order (marked_set n st) order ≡ false
@@ -129,77 +129,84 @@ module _ (s t p ts b : List ℕ) (c : Counts) (h : Standing s t p ts b c) where
       pub in_order : Order n st order
       in_order = checked_order n st order q.calm f
 
-      pub cycle-idle : set ≡ 0 → cycle_as cycle.Idle b ≡ cycle_of b order n st (finding n st)
+      pub cycle-idle : set ≡ 0 → cycle_as (Ok turn.Idle) b ≡ cycle_of b order n st (finding n st)
       unfolding cycle_as said_cycle cycle_of keeps
       cycle-idle z = rw (at_rest n st q.calm (sym q.marks ∙ z), f) refl
 
-      pub cycle_done : set ≢ 0 → (b' : List ℕ) → Became s t p ts b c b' (cycle_in n order st) → cycle_as cycle.Done b' ≡ cycle_of b order n st (finding n st)
+      pub cycle_done : set ≢ 0 → (b' : List ℕ) → Became s t p ts b c b' (cycle_in n order st) → cycle_as (Ok turn.Done) b' ≡ cycle_of b order n st (finding n st)
       unfolding cycle_as said_cycle cycle_of leaves
       cycle_done z b' x = rw (at_work n st q.calm (λ y. z (q.marks ∙ y)), f) (ap (λ (l : List ℕ). record { answer = done 1; bytes = l }) (became_bytes s t p ts b c b' (cycle_in n order st) x))
 
-  pub cycle-broken : (r : MarkAnswer) (x : Refusal) (order rules : List ℕ) → r ≡ mark.Refused x → marking_of r rules ≡ marks_of n st (finding n st) → cycle_as (cycle.Refused x) b ≡ cycle_of b order n st (finding n st)
-  unfolding cycle_as said_cycle refusal cycle_of keeps
-  cycle-broken r x order rules q e = rw (not_told n st r x rules q e) refl
+  pub cycle-broken : (r : Result ℕ Refusal) (x : Refusal) (order rules : List ℕ) → r ≡ Err x → marking_of r rules ≡ marks_of n st (finding n st) → cycle_as (Err x) b ≡ cycle_of b order n st (finding n st)
+  unfolding cycle_as said_cycle refusal reason_number cycle_of keeps
+  cycle-broken r x order rules q e =
+      let y = not_told n st r x rules q e in
+      let refuses : ℕ → After = λ j. record { answer = refused j x.place 0; bytes = b } in
+      ap refuses (ap reason_number y.reason) ∙ sym (ap (cycle_of b order n st) y.found)
 
   -- ── a pass ──
 
   -- what a pass answers and leaves
-  abbrev Passed : ℕ → Pass → List ℕ → Type 0
+  abbrev Passed : ℕ → Option Ending → List ℕ → Type 0
   Passed left r b' = (r ≡ pass_of (finding n st) left) × Became s t p ts b c b' (after_pass (finding n st) left n st)
 
-  pub pass_broken : (r : MarkAnswer) (x : Refusal) (rules : List ℕ) (left : ℕ) → r ≡ mark.Refused x → marking_of r rules ≡ marks_of n st (finding n st) → Passed left (pass.Stop (ending.Fault x.number x.place)) b
-  unfolding pass_of after_pass
-  pass_broken r x rules left q e = rw (not_told n st r x rules q e) (refl, became_none s t p ts c b h)
+  module _ (r : Result ℕ Refusal) (x : Refusal) (rules : List ℕ) (q : r ≡ Err x) (e : marking_of r rules ≡ marks_of n st (finding n st)) where
+    pub blamed : Blamed n st x
+    blamed = not_told n st r x rules q e
 
-  pub broken_small : (r : MarkAnswer) (x : Refusal) (rules : List ℕ) → r ≡ mark.Refused x → marking_of r rules ≡ marks_of n st (finding n st) → x.place < c.boxes + c.inputs + c.outputs
-  broken_small r x rules q e = omega (arith, all_procs s t ts c h.tabled, broken_known n st x.place x.number (not_told n st r x rules q e))
+    pub pass_broken : (f : Fault) (left : ℕ) → x.reason ≡ reason.Fault f → Passed left (Some (ending.Fault f x.place)) b
+    unfolding pass_of after_pass
+    pass_broken f left g = let y : f ≡ blamed.fault = (let h : reason.Fault f ≡ reason.Fault blamed.fault = sym g ∙ blamed.reason in cc) in rw (y, blamed.found) (refl, became_none s t p ts c b h)
+
+    pub broken_small : x.place < c.boxes + c.inputs + c.outputs
+    broken_small = omega (arith, all_procs s t ts c h.tabled, broken_known n st x.place blamed.fault blamed.found)
 
   module _ (set : ℕ) (rules : List ℕ) (q : Told n st set rules) (left : ℕ) where
-    pub pass_idle : set ≡ 0 → Passed left (pass.Stop ending.Idle) b
+    pub pass_idle : set ≡ 0 → Passed left (Some ending.Idle) b
     unfolding pass_of after_pass
     pass_idle z = rw (at_rest n st q.calm (sym q.marks ∙ z)) (refl, became_none s t p ts c b h)
 
-    pub pass_spent : set ≢ 0 → left ≡ 0 → Passed left (pass.Stop ending.Spent) b
+    pub pass_spent : set ≢ 0 → left ≡ 0 → Passed left (Some ending.Spent) b
     unfolding pass_of after_pass
     pass_spent z e = rw (at_work n st q.calm (λ y. z (q.marks ∙ y)), e) (refl, became_none s t p ts c b h)
 
-    pub pass_go : set ≢ 0 → left ≢ 0 → (b' : List ℕ) → Became s t p ts b c b' (cycle_in n (marked_of n st) st) → Passed left pass.Go b'
+    pub pass_go : set ≢ 0 → left ≢ 0 → (b' : List ℕ) → Became s t p ts b c b' (cycle_in n (marked_of n st) st) → Passed left None b'
     unfolding pass_of after_pass
     pass_go z e b' x = rw (at_work n st q.calm (λ y. z (q.marks ∙ y))) (go left e)
       where
-        go : (l : ℕ) → l ≢ 0 → (pass.Go ≡ pass_of moving l) × Became s t p ts b c b' (after_pass moving l n st)
+        go : (l : ℕ) → l ≢ 0 → (None ≡ pass_of moving l) × Became s t p ts b c b' (after_pass moving l n st)
         go zero f = absurd (f refl)
         go (suc l) f = (refl, x)
 
 -- ── passes one after another ─────────────────────────────────────────────────────────────────
 
 module _ (n : Net) (s : State) where
-  pub run_stops : (left : ℕ) (e : Ending) → pass.Stop e ≡ pass_of (finding n s) left → (run n left s ≡ stop e s) × (after_pass (finding n s) left n s ≡ s)
+  pub run_stops : (left : ℕ) (e : Ending) → Some e ≡ pass_of (finding n s) left → (run n left s ≡ stop e s) × (after_pass (finding n s) left n s ≡ s)
   unfolding run halt proceed pass_of after_pass
   run_stops zero e q = go (finding n s) q
     where
-      go : (f : Finding) → pass.Stop e ≡ pass_of f 0 → (halt f s ≡ stop e s) × (after_pass f 0 n s ≡ s)
+      go : (f : Finding) → Some e ≡ pass_of f 0 → (halt f s ≡ stop e s) × (after_pass f 0 n s ≡ s)
       go (broken k x) g = let z : e ≡ ending.Fault x k = cc in (ap (λ (y : Ending). stop y s) (sym z), refl)
       go still g = let z : e ≡ ending.Idle = cc in (ap (λ (y : Ending). stop y s) (sym z), refl)
       go moving g = let z : e ≡ ending.Spent = cc in (ap (λ (y : Ending). stop y s) (sym z), refl)
   run_stops (suc left) e q = go (finding n s) q
     where
-      go : (f : Finding) → pass.Stop e ≡ pass_of f (suc left) → (proceed f s (run n left (cycle_in n (marked_of n s) s)) ≡ stop e s) × (after_pass f (suc left) n s ≡ s)
+      go : (f : Finding) → Some e ≡ pass_of f (suc left) → (proceed f s (run n left (cycle_in n (marked_of n s) s)) ≡ stop e s) × (after_pass f (suc left) n s ≡ s)
       go (broken k x) g = let z : e ≡ ending.Fault x k = cc in (ap (λ (y : Ending). stop y s) (sym z), refl)
       go still g = let z : e ≡ ending.Idle = cc in (ap (λ (y : Ending). stop y s) (sym z), refl)
       go moving g = let z : ◌≡◌ {A = ℕ} 0 1 = cc in absurd (omega arith)
 
-  pub run_goes : (left : ℕ) → pass.Go ≡ pass_of (finding n s) left → (l : ℕ) × (left ≡ suc l) × (run n left s ≡ later (run n l (after_pass (finding n s) left n s)))
+  pub run_goes : (left : ℕ) → None ≡ pass_of (finding n s) left → (l : ℕ) × (left ≡ suc l) × (run n left s ≡ later (run n l (after_pass (finding n s) left n s)))
   unfolding run proceed pass_of after_pass
   run_goes zero q = go (finding n s) q
     where
-      go : {A : Type 0} (f : Finding) → pass.Go ≡ pass_of f 0 → A
+      go : {A : Type 0} (f : Finding) → None ≡ pass_of f 0 → A
       go (broken k x) g = let z : ◌≡◌ {A = ℕ} 0 1 = cc in absurd (omega arith)
       go still g = let z : ◌≡◌ {A = ℕ} 0 1 = cc in absurd (omega arith)
       go moving g = let z : ◌≡◌ {A = ℕ} 0 1 = cc in absurd (omega arith)
   run_goes (suc left) q = go (finding n s) q
     where
-      go : (f : Finding) → pass.Go ≡ pass_of f (suc left) → (l : ℕ) × (suc left ≡ suc l) × (proceed f s (run n left (cycle_in n (marked_of n s) s)) ≡ later (run n l (after_pass f (suc left) n s)))
+      go : (f : Finding) → None ≡ pass_of f (suc left) → (l : ℕ) × (suc left ≡ suc l) × (proceed f s (run n left (cycle_in n (marked_of n s) s)) ≡ later (run n l (after_pass f (suc left) n s)))
       go (broken k x) g = let z : ◌≡◌ {A = ℕ} 0 1 = cc in absurd (omega arith)
       go still g = let z : ◌≡◌ {A = ℕ} 0 1 = cc in absurd (omega arith)
       go moving g = (left, refl, refl)
@@ -235,7 +242,7 @@ module _ (s t p ts b₀ : List ℕ) (c : Counts) (budget : ℕ) where
     abbrev reached : State
     reached = state_of s t c ts b
 
-    pub ran_stops : (e : Ending) (b' : List ℕ) → Passed s t p ts b c x.became.stands left (pass.Stop e) b' → (answer.Ended e cycles ≡ ended_as (run net budget start)) × Became s t p ts b₀ c b' (run net budget start).state
+    pub ran_stops : (e : Ending) (b' : List ℕ) → Passed s t p ts b c x.became.stands left (Some e) b' → (◌≡◌ {A = answer.Ran} (record { ending = e; cycles = cycles }) (ended_as (run net budget start))) × Became s t p ts b₀ c b' (run net budget start).state
     unfolding ended_as stop
     ran_stops e b' y =
         let z = run_stops net reached left e y.0 in
@@ -244,9 +251,9 @@ module _ (s t p ts b₀ : List ℕ) (c : Counts) (budget : ℕ) where
         let ee : (run net budget start).ending ≡ e = g.ending ∙ ap (λ (r : Ended). r.ending) f in
         let cc' : (run net budget start).cycles ≡ cycles + 0 = g.count ∙ ap (λ (r : Ended). cycles + r.cycles) f in
         let ss : (run net budget start).state ≡ reached = g.state ∙ ap (λ (r : Ended). r.state) f in
-        (ap₂ (λ (y : Ending) (j : ℕ). answer.Ended y j) (sym ee) (omega (arith, cc')), subst (Became s t p ts b₀ c b') (z.1 ∙ sym ss) (became_more s t p ts c b₀ b b' reached (after_pass (finding net reached) left net reached) x.became y.1))
+        (ap₂ (λ (y : Ending) (j : ℕ). record { ending = y; cycles = j }) (sym ee) (omega (arith, cc')), subst (Became s t p ts b₀ c b') (z.1 ∙ sym ss) (became_more s t p ts c b₀ b b' reached (after_pass (finding net reached) left net reached) x.became y.1))
 
-    pub ran_goes : (b' : List ℕ) → Passed s t p ts b c x.became.stands left pass.Go b' → (cycles < budget) × Ran (cycles + 1) b'
+    pub ran_goes : (b' : List ℕ) → Passed s t p ts b c x.became.stands left None b' → (cycles < budget) × Ran (cycles + 1) b'
     unfolding later
     ran_goes b' y =
         let z = run_goes net reached left y.0 in

@@ -10,34 +10,23 @@ pub overflow_sub-left : goal.overflow_sub-left
 overflow_sub-left c = c.loop-ending.invariant.ongoing.within
 
 pub one_pass-requires : goal.one_pass-requires
-one_pass-requires c = record { standing = c.loop-ending.invariant.became.stands; fields = c.requires.fields }
+one_pass-requires c = record { standing = c.loop-ending.invariant.became.stands }
 
-pub shape_of-state-in-Stop : goal.shape_of-state-in-Stop
-shape_of-state-in-Stop c =
-    let passed = c in
-    let y = passed.one_pass.ensures in
-    y.1.long ∙ passed.loop-ending.invariant.became.long
+pub shape_of-state-in-Some : goal.shape_of-state-in-Some
+shape_of-state-in-Some c = c.one_pass.ensures.1.long ∙ c.loop-ending.invariant.became.long
 
-pub returns-in-Stop : goal.returns-in-Stop
-returns-in-Stop c =
-    let passed = c in
-    let y = passed.one_pass.ensures in
-    ran_stops _ _ _ _ _ _ _ _ _ passed.loop-ending.invariant _ refl _ _ (sym c.in-Stop.is ∙ y.0, y.1)
+pub returns-in-Some : goal.returns-in-Some
+returns-in-Some c = let y = c.one_pass.ensures in ran_stops _ _ _ _ _ _ _ _ _ c.loop-ending.invariant _ refl _ _ (sym c.in-Some.is ∙ y.0, y.1)
 
 pub overflow_add-cycles : goal.overflow_add-cycles
 overflow_add-cycles c =
-    let passed = c in
-    let y = passed.one_pass.ensures in
-    omega (arith, (ran_goes _ _ _ _ _ _ _ _ _ passed.loop-ending.invariant _ refl _ (sym c.in-Go.is ∙ y.0, y.1)).0, passed.ranges.budget)
+    let y = c.one_pass.ensures in
+    omega (arith, (ran_goes _ _ _ _ _ _ _ _ _ c.loop-ending.invariant _ refl _ (sym c.in-None.is ∙ y.0, y.1)).0, c.ranges.budget)
 
 pub loop-ending-smaller : goal.loop-ending-smaller
 loop-ending-smaller c =
-    let passed = c in
-    let y = passed.one_pass.ensures in
-    omega (arith, (ran_goes _ _ _ _ _ _ _ _ _ passed.loop-ending.invariant _ refl _ (sym c.in-Go.is ∙ y.0, y.1)).0)
+    let y = c.one_pass.ensures in
+    omega (arith, (ran_goes _ _ _ _ _ _ _ _ _ c.loop-ending.invariant _ refl _ (sym c.in-None.is ∙ y.0, y.1)).0)
 
 pub loop-ending-preserved : goal.loop-ending-preserved
-loop-ending-preserved c =
-    let passed = c in
-    let y = passed.one_pass.ensures in
-    (ran_goes _ _ _ _ _ _ _ _ _ passed.loop-ending.invariant _ refl _ (sym c.in-Go.is ∙ y.0, y.1)).1
+loop-ending-preserved c = let y = c.one_pass.ensures in (ran_goes _ _ _ _ _ _ _ _ _ c.loop-ending.invariant _ refl _ (sym c.in-None.is ∙ y.0, y.1)).1

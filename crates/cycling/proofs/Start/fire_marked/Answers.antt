@@ -2,20 +2,17 @@ use Prim.Native.Nat.{◌<◌}
 use native.Mathlib.Omega.{arith}
 use Rattle.cycling.proofs.Midway.{noted_many}
 use Rattle.cycling.proofs.Rounds.{from_first, from_last, from_asks, from_next}
-use Rattle.cycling.proofs.fire_marked.Goals as goal
+use Rattle.cycling.proofs.Start.fire_marked.Goals as goal
 
 pub loop-k-init : goal.loop-k-init
 loop-k-init c = let q = c.requires in (q.standing, q.told, from_first _ _ _ _ _ _ q.standing _ _ q.told)
-
-pub overflow_cast-process : goal.overflow_cast-process
-overflow_cast-process c = let w = c.requires.standing.tabled.within in omega (arith, w.boxes, w.inputs, w.outputs)
 
 pub fire_if-requires : goal.fire_if-requires
 fire_if-requires c =
     let inv = c.loop-k.invariant in
     let w = inv.0.tabled.within in
     let small : c.loop-k.k < 64 = omega (arith, w.boxes, w.inputs, w.outputs) in
-    record { standing = inv.2.became.stands; fields = c.requires.fields; k_bound = (small, noted_many _ _ _ inv.1.noted); chosen = from_asks _ _ _ _ _ _ inv.0 _ _ inv.1 _ _ c.loop-k-test.true inv.2 }
+    record { standing = inv.2.became.stands; k_bound = (small, noted_many _ _ _ inv.1.noted); chosen = from_asks _ _ _ _ _ _ inv.0 _ _ inv.1 _ _ c.loop-k-test.true inv.2 }
 
 pub loop-k-preserved : goal.loop-k-preserved
 loop-k-preserved c =
