@@ -9,14 +9,14 @@ use native.Mathlib.Numerals.{add-one}
 use native.Mathlib.Decide.{dec_lt}
 use lib.ListN.{length, get_or, drop, replicate, drop_of_length-le}
 use lib.Seq.{drop-cons, drop-drop}
+use Rattle.std.specs.Prelude.{Ok, Err}
 use Rattle.model.specs.declared.Ty.{Ty}
 use Rattle.model.specs.declared.Refusal.{Refusal}
 use Rattle.model.specs.declared.Token.{Token}
 use Rattle.model.specs.Bytes.{two_at, two_bytes, four_bytes, value_bytes}
 use Rattle.model.specs.Network.{Proc, box, input, output, Net, Own, vars, State, wire, proc, own, got_of, nobody}
-use Rattle.model.specs.NetworkFile.{Index, input_at, output_at, refuse, next, by_verdict}
+use Rattle.model.specs.NetworkFile.{Index, input_at, output_at, by_verdict}
 use Rattle.model.specs.States.{token_at, read_tokens, tokens_bytes, token_bytes, token_fits, tokens_fit, room_bytes, own_bytes}
-use Rattle.model.specs.Calls.{with_tokens, held}
 use Rattle.model.specs.Printing.{shown, spaced, output_line, output_lines}
 use Rattle.model.proofs.Tests.{and₂}
 use Rattle.model.proofs.Decoded.{GoodType, GoodProc}
@@ -28,7 +28,9 @@ use Rattle.queues.proofs.Queues.{got_count}
 use Rattle.lookup.proofs.Tabled.{n_boxes, n_inputs, n_outputs}
 use Rattle.places.specs.Standing.{tokens_of, net_in, Standing, state_of}
 use Rattle.places.proofs.Standing.{net_all, state_good}
-use Rattle.opening.specs.Opening.{OpenState}
+use Rattle.places.specs.Views.{net_at, state_at}
+use Rattle.token_file.specs.declared.Feed.{Feed}
+use Rattle.opening.specs.Opening.{OpenState, StateOpened}
 use Rattle.opening.proofs.Laws.{whole_held}
 use Rattle.printing.specs.Pages.{Page, laid}
 use Rattle.printing.specs.Lines.{lines_in}
@@ -193,10 +195,14 @@ module _ (s t p ts b : List ℕ) (c : Counts) (h : Standing s t p ts b c) where
 
 -- ── from the files and the lent bytes ────────────────────────────────────────────────────────
 
-pub no_lines : (s ts b : List ℕ) (x : Refusal) → next (with_tokens s ts) (held true b) ≡ refuse x.number x.place → [] ≡ lines_in s ts b
-unfolding lines_in by_verdict
+pub no_lines : (s ts b : List ℕ) (x : Refusal) → StateOpened s ts b (Err x) → [] ≡ lines_in s ts b
+unfolding lines_in by_verdict StateOpened
 no_lines s ts b x e = rw e
 
-pub lines_in_lem : (s ts t p f b : List ℕ) (c : Counts) (size : ℕ) → OpenState s ts t p f b c size → output_lines 0 (net_in s t c ts).procs (state_of s t c ts b).owns ≡ lines_in s ts b
+pub opened_lem : (s ts b : List ℕ) (f : Feed) → StateOpened s ts b (Ok f) → OpenState s ts b f
+unfolding StateOpened
+opened_lem s ts b f e = e
+
+pub lines_in_lem : (s ts b : List ℕ) (f : Feed) → OpenState s ts b f → output_lines 0 (net_at f.site).procs (state_at f.site b).owns ≡ lines_in s ts b
 unfolding lines_in by_verdict
-lines_in_lem s ts t p f b c size h = rw (whole_held s ts t p f b c size h)
+lines_in_lem s ts b f h = rw (whole_held s ts b f h)

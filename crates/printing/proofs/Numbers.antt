@@ -8,14 +8,18 @@ use native.Mathlib.Omega.{arith}
 use native.Mathlib.Nat.{mod-eq_of_lt}
 use lib.ListN.{length, take, drop, set, length-drop, length-set}
 use lib.Seq.{take_all, set_split, drop_at, length-take-le}
-use lib.IntN.{ℤ, pos, negsuc, nat_abs, ◌-ℤ◌}
+use lib.IntN.{ℤ, pos, negsuc, nat_abs}
 use lib.Signed.{mag, lt_z}
 use mir.Syntax.{w64}
-use mir.Val.{to_z, of_z}
+use mir.Val.{SFits, to_z, of_z}
 use borrow.Author.Tests.{lt-ltb, le-ltb, ltb-true, ne_eqb}
 use Rattle.model.specs.declared.Token.{Token}
-use Rattle.model.specs.Printing.{digits_from, decimal, signed, shown}
-use Rattle.octets.proofs.Laws.{back, cast_is}
+use Rattle.model.specs.declared.Fault as fault
+use Rattle.model.specs.declared.Ending.{Ending}
+use Rattle.model.specs.declared.Ending.TheVariants.{Idle, Spent, Fault}
+use Rattle.model.specs.Printing.{digits_from, decimal, signed, shown, box_part}
+use mir.Facts.{to_z-of_z}
+use Rattle.octets.proofs.Laws.{back}
 
 -- ── digits ───────────────────────────────────────────────────────────────────────────────────
 
@@ -51,30 +55,20 @@ digits_done s i n b m l h f e d =
 
 -- ── the sign ─────────────────────────────────────────────────────────────────────────────────
 
--- a value below zero, and one that is not
-pub turned : (z : ℤ) → mag z < 2147483648 → lt_z (to_z w64 (of_z w64 z)) (pos 0) ≡ true → pos 0 -ℤ to_z w64 (of_z w64 z) ≡ pos (nat_abs z)
-turned (pos n) h t = absurd (omega (arith, ltb-true n 0 (rw (back {z = pos n} (omega arith)) at t)))
-turned (negsuc n) h t = rw (back {z = negsuc n} (omega arith)) (ap pos (omega arith))
-
-pub as_is : (z : ℤ) → mag z < 2147483648 → lt_z (to_z w64 (of_z w64 z)) (pos 0) ≡ false → z ≡ pos (nat_abs z)
-as_is (pos n) h t = refl
-as_is (negsuc n) h t = let f : true ≡ false = rw (back {z = negsuc n} (omega arith)) at t in absurd (let z : ◌≡◌ {A = ℕ} 0 1 = cc in omega arith)
-
-pub abs_small : (z : ℤ) → mag z < 2147483648 → nat_abs z < 4294967296
-abs_small (pos n) h = omega arith
-abs_small (negsuc n) h = omega arith
-
--- the digits of what is cast, with a minus or without
-pub minus_first : (z : ℤ) → mag z < 2147483648 → lt_z (to_z w64 (of_z w64 z)) (pos 0) ≡ true → 45 ∷ decimal (nat_abs (to_z w64 (of_z w64 (pos 0 -ℤ to_z w64 (of_z w64 z))))) ≡ signed z
-minus_first z h t = ap (λ (j : ℕ). 45 ∷ decimal j) (cast_is (turned z h t) (abs_small z h)).0 ∙ go z t h
+-- the digits of a value's size, behind a minus for one below zero
+pub minus_first : (z : ℤ) (n : ℕ) → SFits w64 z → n ≡ nat_abs (to_z w64 (of_z w64 z)) → lt_z (to_z w64 (of_z w64 z)) (pos 0) ≡ true → 45 ∷ decimal n ≡ signed z
+minus_first z n f e t = let b = to_z-of_z {w = w64} f in ap (λ (j : ℕ). 45 ∷ decimal j) (rw b at e) ∙ go z (rw b at t)
   where
-    go : (z : ℤ) → lt_z (to_z w64 (of_z w64 z)) (pos 0) ≡ true → mag z < 2147483648 → 45 ∷ decimal (nat_abs z) ≡ signed z
-    go (pos n) t h = absurd (omega (arith, ltb-true n 0 (rw (back {z = pos n} (omega arith)) at t)))
-    go (negsuc n) t h = unfold signed in refl
+    go : (z : ℤ) → lt_z z (pos 0) ≡ true → 45 ∷ decimal (nat_abs z) ≡ signed z
+    go (pos n) t = absurd (omega (arith, ltb-true n 0 t))
+    go (negsuc n) t = unfold signed in refl
 
-pub no_minus : (z : ℤ) → mag z < 2147483648 → lt_z (to_z w64 (of_z w64 z)) (pos 0) ≡ false → decimal (nat_abs (to_z w64 (of_z w64 z))) ≡ signed z
-unfolding signed
-no_minus z h t = let e = as_is z h t in ap decimal (cast_is e (abs_small z h)).0 ∙ ap signed (sym e)
+pub no_minus : (z : ℤ) (n : ℕ) → SFits w64 z → n ≡ nat_abs (to_z w64 (of_z w64 z)) → lt_z (to_z w64 (of_z w64 z)) (pos 0) ≡ false → decimal n ≡ signed z
+no_minus z n f e t = let b = to_z-of_z {w = w64} f in ap decimal (rw b at e) ∙ go z (rw b at t)
+  where
+    go : (z : ℤ) → lt_z z (pos 0) ≡ false → decimal (nat_abs z) ≡ signed z
+    go (pos n) t = unfold signed in refl
+    go (negsuc n) t = let z : true ≡ false = t in absurd (let y : ◌≡◌ {A = ℕ} 0 1 = cc in omega arith)
 
 -- ── tokens, one law a way out ────────────────────────────────────────────────────────────────
 
@@ -94,3 +88,12 @@ module _ (t : Token) where
   pub shown_data : mag t.value < 2147483648 → (t.tag ≡ 0 → ⊥) → (t.tag ≡ 1 → ⊥) → (t.tag ≡ 2 → ⊥) → 39 ∷ signed (to_z w64 (of_z w64 t.value)) ≡ shown t
   unfolding shown
   shown_data h e f g = rw (ne_eqb t.tag 0 e, ne_eqb t.tag 1 f, ne_eqb t.tag 2 g, back {z = t.value} (omega arith))
+
+-- ── endings ──────────────────────────────────────────────────────────────────────────────────
+
+-- no box for an ending that is no fault
+pub no_box : (e : Ending) → ((x : fault.Fault) (b : ℕ) → e ≡ Fault x b → ⊥) → [] ≡ box_part e
+unfolding box_part
+no_box Idle f = refl
+no_box Spent f = refl
+no_box (Fault x b) f = absurd (f x b refl)
