@@ -2,8 +2,8 @@
 
 // Loads, output files and checks of saved states. Reads rows, made from outside vectors: 0 for a load, 1 for writing outputs or 2 for a saved state; the byte that fills the lent buffer; two-byte
 // lengths of network file, token file, state and lent buffer; the bytes of the first three. Prints each answer on a line, for a lent buffer with a checksum of its bytes afterwards.
-use model::{LoadAnswer, Refusal, WriteAnswer};
-use opening::Opened;
+use model::Refusal;
+use opening::Tables;
 use reading::read_full;
 use std::io;
 use std::io::Read;
@@ -13,31 +13,22 @@ const ROOM: usize = 65536;
 
 // The refusal's number and place.
 fn print_refusal(rt: &impl Print, r: Refusal) -> io::Result<()> {
-    print!(rt; "refused {} {}", r.number, r.place)
+    print!(rt; "refused {} {}", r.reason.number(), r.place)
 }
 
-// A good answer's size.
-fn print_size(rt: &impl Print, size: usize) -> io::Result<()> {
-    print!(rt; "ok {size}")
-}
-
-// Each byte of a buffer set.
-fn fill(s: &mut [u8], byte: u8) {
-    let n = s.len();
-    let mut i: usize = 0;
-    while i < n {
-        s[i] = byte;
-        i += 1;
+// A good answer's size, or the refusal.
+fn print_size(rt: &impl Print, answer: Result<usize, Refusal>) -> io::Result<()> {
+    match answer {
+        Ok(size) => print!(rt; "ok {size}"),
+        Err(refusal) => print_refusal(rt, refusal),
     }
 }
 
 // A checksum that every byte and its place count in.
 fn sum(s: &[u8]) -> usize {
     let mut h: usize = 0;
-    let mut i: usize = 0;
-    while i < s.len() {
-        h = (h * 257 + octets::wide(octets::byte_at(s, i)) + 1) % 65521;
-        i += 1;
+    for byte in s {
+        h = (h * 257 + usize::from(*byte) + 1) % 65521;
     }
     h
 }
@@ -49,30 +40,22 @@ fn print_sum(rt: &impl Print, s: &[u8]) -> io::Result<()> {
 
 // A load's answer, and the lent state.
 fn print_load(rt: &impl Print, net: &[u8], tokens: &[u8], state: &mut [u8]) -> io::Result<()> {
-    match bench::load(net, tokens, state) {
-        LoadAnswer::Loaded { size } => print_size(rt, size)?,
-        LoadAnswer::Refused { refusal } => print_refusal(rt, refusal)?,
-    }
+    print_size(rt, bench::load(net, tokens, state))?;
     print_sum(rt, state)
 }
 
 // The answer of writing outputs, and the lent output buffer.
 fn print_write(rt: &impl Print, net: &[u8], state: &[u8], out: &mut [u8]) -> io::Result<()> {
-    match bench::write_outputs(net, state, out) {
-        WriteAnswer::Written { size } => print_size(rt, size)?,
-        WriteAnswer::Refused { refusal } => print_refusal(rt, refusal)?,
-    }
+    print_size(rt, bench::write_outputs(net, state, out))?;
     print_sum(rt, out)
 }
 
 // Whether a saved state is taken, with its files.
 fn print_held(rt: &impl Print, net: &[u8], tokens: &[u8], state: &[u8]) -> io::Result<()> {
-    let mut table = [0u16; 656];
-    let mut starts = [0u16; 113];
-    let mut fields = [0u16; 8];
-    match opening::open_state(net, tokens, &mut table, &mut starts, &mut fields, state) {
-        Opened::Good { .. } => print!(rt; "held"),
-        Opened::Refused { refusal } => print_refusal(rt, refusal),
+    let mut tables = Tables::new();
+    match opening::open_state(net, tokens, state, &mut tables) {
+        Ok(_) => print!(rt; "held"),
+        Err(refusal) => print_refusal(rt, refusal),
     }
 }
 
@@ -89,7 +72,7 @@ fn answer(
     if what == 2 {
         return print_held(rt, net, tokens, state);
     }
-    fill(lent, byte);
+    lent.fill(byte);
     if what == 1 {
         return print_write(rt, net, state, lent);
     }
