@@ -13,10 +13,10 @@ use borrow.Author.Tests.{leb-true, le-leb}
 use Rattle.model.specs.declared.Ending.{Ending}
 use Rattle.model.specs.declared.Ending.TheVariants as ending
 use Rattle.model.specs.Network.{Net, State, loaded}
-use Rattle.model.specs.NetworkFile.{Verdict, good, refuse, next, or_refuse, by_verdict, count}
+use Rattle.model.specs.NetworkFile.{Verdict, good, refuse, next, or_refuse, by_verdict}
 use Rattle.model.specs.States.{bytes_of, state_size, state_fits, state_in}
 use Rattle.model.specs.Cycles.{Finding, broken, still, moving, finding, mark, marked_of, marked_set, is_order, cycle_in, Ended, run, stop, halt, proceed, later}
-use Rattle.model.specs.Calls.{After, Answer, loaded_with, done, idle, spent, refused, Held, held, roomy, with_tokens, keeps, leaves, said_ending, run_of, cycle_of, file_in, load_call, cycle_call, run_call, write_call, without_tokens, written}
+use Rattle.model.specs.Calls.{After, Answer, loaded_with, done, idle, refused, Held, held, roomy, with_tokens, keeps, leaves, said_ending, run_of, cycle_of, file_in, load_call, cycle_call, run_call, write_call, without_tokens}
 use Rattle.model.specs.Orders.{at_load}
 use Rattle.model.proofs.Whole.{next_good, or_refuse_good, tokens_accepted}
 use Rattle.model.proofs.Order.{OneEach, any_order}
@@ -27,7 +27,7 @@ use Rattle.model.proofs.Kept.{GoodState, reached_good}
 use Rattle.octets.proofs.Laws.{Octets}
 use Rattle.queues.proofs.Saved.{good_laid, fits_good}
 use Rattle.queues.proofs.Whole.{length_bytes, state_whole}
-use Rattle.bench.specs.Demands.{LoadSame, Loads, Refusals, AnyTwoOrders, after_cycles, counted, Counts}
+use Rattle.bench.specs.Demands.{Loads, Refusals, AnyTwoOrders, after_cycles, counted, Counts}
 
 -- ── what is held ─────────────────────────────────────────────────────────────────────────────
 

@@ -1,6 +1,6 @@
 -- The ways out of a load.
 -- Assumes nothing.
-use mathlib.Core.Path.{◌≡◌, refl, sym, ap, ap₂, ◌∙◌, subst}
+use mathlib.Core.Path.{◌≡◌, refl, sym, ap₂, ◌∙◌}
 use mathlib.Core.Bool.{Bool, true, false, cond}
 use mathlib.Core.List.{List, ◌++◌}
 use Prim.Native.Nat.{ℕ, ◌≤◌, ◌<◌}
@@ -8,18 +8,18 @@ use native.Mathlib.Omega.{arith}
 use lib.Dec.{leb}
 use lib.ListN.{length, drop}
 use borrow.Author.Tests.{le-leb, lt-leb}
+use Rattle.std.specs.Prelude.{Err}
 use Rattle.model.specs.declared.Refusal.{Refusal}
 use Rattle.model.specs.Network.{Net, loaded}
-use Rattle.model.specs.NetworkFile.{Verdict, good, refuse, next, or_refuse, by_verdict}
+use Rattle.model.specs.NetworkFile.{good, next, or_refuse, by_verdict}
 use Rattle.model.specs.States.{state_size, bytes_of}
-use Rattle.model.specs.Calls.{Answer, loaded_with, refused, refusal, After, keeps, leaves, with_tokens, roomy, load_call}
-use Rattle.table.specs.declared.Counts.{Counts}
-use Rattle.table.specs.Table.{index_in}
-use Rattle.places.specs.Standing.{bare_net, tokens_of, net_in}
+use Rattle.model.specs.Calls.{loaded_with, refused, refusal, said_load, After, keeps, leaves, with_tokens, roomy, load_call}
+use Rattle.lookup.specs.Views.{index_of, network_of}
+use Rattle.places.specs.Standing.{tokens_of, net_in}
+use Rattle.places.specs.Views.{net_at}
+use Rattle.token_file.specs.declared.Feed.{Feed}
 use Rattle.states.proofs.Loads.{size_same, loaded-same}
-use Rattle.opening.specs.declared.Opened.{Opened}
-use Rattle.opening.specs.declared.Opened.TheVariants as opened
-use Rattle.opening.specs.Opening.{OpenWith, FilesOpened}
+use Rattle.opening.specs.Opening.{Refuses, OpenFiles}
 use Rattle.opening.proofs.Laws.{with_tokens_lem}
 use Rattle.bench.specs.Afters.{after, load_in}
 
@@ -36,9 +36,9 @@ module _ (n : Net) (st : List ℕ) (size : ℕ) (e : size ≡ state_size n) wher
 
 -- ── the call ─────────────────────────────────────────────────────────────────────────────────
 
-pub load-refused : (s ts t p f st : List ℕ) (r : Opened) (x : Refusal) → r ≡ opened.Refused x → FilesOpened s ts t p f r → after (refusal x) st ≡ load_call s ts st
-unfolding FilesOpened after refusal load_call next by_verdict keeps
-load-refused s ts t p f st r x e h = rw (subst (FilesOpened s ts t p f) e h) refl
+pub load-refused : (s ts st : List ℕ) (x : Refusal) → Refuses (with_tokens s ts) x → after (said_load (Err x)) st ≡ load_call s ts st
+unfolding said_load after refusal load_call next by_verdict keeps
+load-refused s ts st x h = rw h refl
 
 -- a load in terms of the state's size and of its bytes
 load_with : List ℕ → ℕ → List ℕ → After
@@ -54,13 +54,14 @@ load_is n st = by_bool (leb (state_size n) (length st))
     by_bool true = refl
     by_bool false = refl
 
-tokens_apart : (s t ts st : List ℕ) (c : Counts) → load_in (bare_net s t c) st ≡ load_in (net_in s t c ts) st
-unfolding net_in bare_net
-tokens_apart s t ts st c =
-    let y = index_in t c in
-    let k = tokens_of s t c ts in
-    load_is (bare_net s t c) st ∙ ap₂ (load_with st) (sym (size_same s y k)) (sym (loaded-same s y k)) ∙ sym (load_is (net_in s t c ts) st)
+tokens_apart : (f : Feed) (st : List ℕ) → load_in (network_of f.site.plan.net) st ≡ load_in (net_at f.site) st
+unfolding net_in
+tokens_apart f st =
+    let n = f.site.plan.net in
+    let y = index_of n in
+    let k = tokens_of n.file.now n.table.now n.counts f.site.tokens.now in
+    load_is (network_of n) st ∙ ap₂ (load_with st) (sym (size_same n.file.now y k)) (sym (loaded-same n.file.now y k)) ∙ sym (load_is (net_at f.site) st)
 
-pub load_open : (s ts t p f st : List ℕ) (c : Counts) (size : ℕ) → OpenWith s ts t p f c size → (a : After) → a ≡ load_in (bare_net s t c) st → a ≡ load_call s ts st
+pub load_open : (s ts st : List ℕ) (f : Feed) → OpenFiles s ts f → (a : After) → a ≡ load_in (network_of f.site.plan.net) st → a ≡ load_call s ts st
 unfolding load_in load_call next
-load_open s ts t p f st c size h a e = rw (with_tokens_lem s ts t p f c size h) (e ∙ tokens_apart s t ts st c)
+load_open s ts st f h a e = rw (with_tokens_lem s ts f h) (e ∙ tokens_apart f st)

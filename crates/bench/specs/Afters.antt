@@ -1,9 +1,9 @@
 -- An answer with the lent bytes, and what is left of a call once its files are accepted.
 -- Assumes nothing.
-use Rattle.std.specs.Prelude.{ℕ, Bool, true, false, List, ◌++◌, leb, length, drop}
+use Rattle.std.specs.Prelude.{ℕ, Bool, true, false, List, ◌++◌, leb, length, drop, Result, Ok, Err}
 use Rattle.model.specs.declared.Marked.{Marked}
-use Rattle.model.specs.declared.RunAnswer.{RunAnswer}
-use Rattle.model.specs.declared.RunAnswer.TheVariants as run
+use Rattle.model.specs.declared.Ran.{Ran}
+use Rattle.model.specs.declared.Refusal.{Refusal}
 use Rattle.model.specs.Network.{Net, loaded}
 use Rattle.model.specs.NetworkFile.{next, or_refuse, by_verdict}
 use Rattle.model.specs.States.{state_size}
@@ -31,9 +31,9 @@ write_in n st out =
     (λ n p. keeps out (refused n p 0))
 
 -- a run began: its answer tells how it ended, and not a refusal before it
-unfoldable pub begun : RunAnswer → Bool
-begun (run.Ended e c) = true
-begun (run.Refused r) = false
+unfoldable pub begun : Result Ran Refusal → Bool
+begun (Ok r) = true
+begun (Err r) = false
 
 -- a run begins where nothing is refused before it; so a fault after 0 cycles and a refusal before the run are told apart
 unfoldable pub begins : List ℕ → List ℕ → List ℕ → ℕ → Bool

@@ -1,18 +1,18 @@
-use Rattle.opening.proofs.Laws.{whole_open}
+use Rattle.std.proofs.lemmas.Result.{err_from_is_err_and}
+use Rattle.opening.specs.Opening.{StateOpened}
 use Rattle.bench.proofs.Cycles.{cycle-refused, cycle_open}
 use Rattle.bench.proofs.cycle.Goals as goal
 
+pub returns-in_err-feed : goal.returns-in_err-feed
+unfolding StateOpened
+returns-in_err-feed c =
+    let p = err_from_is_err_and c.from_residual.result c.from_residual.ensures.1 in
+    rw (p.1, p.2) (cycle-refused _ _ _ _ _ c.in_err-feed.ensures)
+
 pub cycle_in-requires : goal.cycle_in-requires
-cycle_in-requires c =
-    let g = c in
-    let h = whole_open _ _ _ _ _ _ _ g.open_state.ensures _ _ g.in-Good.is in
-    record { standing = h.standing; fields = h.files.fields }
+unfolding StateOpened
+cycle_in-requires c = record { standing = c.in_ok-feed.ensures.standing }
 
-pub returns-in-Refused : goal.returns-in-Refused
-returns-in-Refused c = let k = c in cycle-refused _ _ _ _ _ _ _ _ _ c.in-Refused.is k.open_state.ensures
-
-pub returns-in-Good : goal.returns-in-Good
-returns-in-Good c =
-    let done = c in
-    let g = done in
-    cycle_open _ _ _ _ _ _ _ _ _ (whole_open _ _ _ _ _ _ _ g.open_state.ensures _ _ g.in-Good.is) _ _ done.cycle_in.ensures
+pub returns : goal.returns
+unfolding StateOpened
+returns c = cycle_open _ _ _ _ _ c.in_ok-feed.ensures _ _ c.cycle_in.ensures

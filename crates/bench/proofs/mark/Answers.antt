@@ -1,19 +1,15 @@
-use Rattle.opening.proofs.Laws.{whole_open}
+use Rattle.opening.specs.Opening.{StateOpened}
 use Rattle.bench.proofs.Marks.{mark-refused, mark_open}
 use Rattle.bench.proofs.mark.Goals as goal
 
 pub mark_in-requires : goal.mark_in-requires
-mark_in-requires c =
-    let g = c in
-    let k = g in
-    let h = whole_open _ _ _ _ _ _ _ k.open_state.ensures _ _ g.in-Good.is in
-    record { standing = h.standing; fields = h.files.fields }
+unfolding StateOpened
+mark_in-requires c = c.in-Ok.ensures.standing
 
-pub returns-in-Refused : goal.returns-in-Refused
-returns-in-Refused c = let k = c in mark-refused _ _ _ _ _ _ _ _ c.in-Refused.is k.open_state.ensures
+pub returns-in-Err : goal.returns-in-Err
+unfolding StateOpened
+returns-in-Err c = mark-refused _ _ _ _ c.in-Err.ensures c.unmarked.ensures
 
-pub returns-in-Good : goal.returns-in-Good
-returns-in-Good c =
-    let g = c in
-    let k = g in
-    mark_open _ _ _ _ _ _ _ _ (whole_open _ _ _ _ _ _ _ k.open_state.ensures _ _ g.in-Good.is) c.mark_in.ensures
+pub returns-in-Ok : goal.returns-in-Ok
+unfolding StateOpened
+returns-in-Ok c = mark_open _ _ _ _ c.in-Ok.ensures c.mark_in.ensures

@@ -1,26 +1,14 @@
-use Rattle.model.specs.Calls.{said_write}
-use Rattle.opening.proofs.Laws.{net_open}
+use Rattle.std.proofs.lemmas.Result.{err_from_is_err_and}
+use Rattle.opening.specs.Opening.{NetworkOpened}
 use Rattle.bench.proofs.Writes.{write-refused, write_open}
 use Rattle.bench.proofs.write_outputs.Goals as goal
 
-pub write_in-requires : goal.write_in-requires
-write_in-requires c =
-    let g = c in
-    let k = g in
-    let a = k.args in
-    net_open a.net.now k.open_network.new.table k.open_network.new.starts k.open_network.result _ _ g.in-Good.is k.open_network.ensures
+pub returns-in_err-plan : goal.returns-in_err-plan
+unfolding NetworkOpened
+returns-in_err-plan c =
+    let p = err_from_is_err_and c.from_residual.result c.from_residual.ensures.1 in
+    rw (p.1, p.2) (write-refused _ _ _ _ c.in_err-plan.ensures)
 
-pub returns-in-Refused : goal.returns-in-Refused
-unfolding said_write
-returns-in-Refused c =
-    let k = c in
-    let a = k.args in
-    write-refused a.net.now k.open_network.new.table k.open_network.new.starts a.state.now a.out.now k.open_network.result _ c.in-Refused.is k.open_network.ensures
-
-pub returns-in-Good : goal.returns-in-Good
-returns-in-Good c =
-    let d = c in
-    let g = d in
-    let k = g in
-    let a = k.args in
-    write_open a.net.now k.open_network.new.table k.open_network.new.starts a.state.now a.out.now _ _ (net_open a.net.now k.open_network.new.table k.open_network.new.starts k.open_network.result _ _ g.in-Good.is k.open_network.ensures) _ d.write_in.ensures
+pub returns : goal.returns
+unfolding NetworkOpened
+returns c = write_open _ _ _ c.in_ok-plan.plan c.in_ok-plan.ensures _ c.write_in.ensures
