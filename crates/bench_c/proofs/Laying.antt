@@ -10,13 +10,11 @@ use lib.Dec.{leb}
 use lib.ListN.{length, set, get_or, drop, drop_of_length-le}
 use lib.Seq.{drop-cons}
 use borrow.Author.Tests.{le-leb, lt-leb}
-use Rattle.model.specs.declared.Refusal.{Refusal}
-use Rattle.model.specs.declared.Ending.{Ending}
 use Rattle.model.specs.NetworkFile.{or_refuse, by_verdict}
-use Rattle.model.specs.Calls.{Answer, refused, refusal, said_ending, After, Marking, run_call}
+use Rattle.model.specs.Calls.{Answer, After, Marking, run_call}
 use Rattle.bench.specs.Afters.{after}
 use Rattle.bench_c.specs.declared.Numbers.{Numbers}
-use Rattle.bench_c.specs.Heard.{numbers_of, stretch_of, listed, laid, heard, answered, says, says_marks}
+use Rattle.bench_c.specs.Heard.{numbers_of, listed, laid, heard, answered, says, says_marks}
 
 -- ── the lent array ───────────────────────────────────────────────────────────────────────────
 
@@ -38,28 +36,6 @@ module _ (xs : List ℕ) (i : ℕ) (a : List ℕ) where
   pub laid_all : (l : List ℕ) → length xs ≤ i → laid (4 + i) (drop i xs) a ≡ l → a ≡ l
   unfolding laid
   laid_all l h g = sym (ap (λ (ys : List ℕ). laid (4 + i) ys a) (drop_of_length-le xs h)) ∙ g
-
--- ── an answer's numbers ──────────────────────────────────────────────────────────────────────
-
-pub refused_is : (x : Refusal) {n p : ℕ} → n ≡ x.number → p ≡ x.place → ◌≡◌ {A = Numbers} (record { word = 0; number = n; place = p; cycles = 0; value = 0 }) (numbers_of (refusal x))
-unfolding numbers_of refusal
-refused_is x e f = rw (e, f) refl
-
-pub stretch_is : (s l : ℕ) {p v : ℕ} → p ≡ s → v ≡ l → ◌≡◌ {A = Numbers} (record { word = 8; number = 0; place = p; cycles = 0; value = v }) (stretch_of (record { start = s; len = l }))
-unfolding stretch_of
-stretch_is s l e f = rw (e, f) refl
-
-pub fault_is : (c : ℕ) {n p : ℕ} (number place : ℕ) → n ≡ number → p ≡ place → ◌≡◌ {A = Numbers} (record { word = 0; number = n; place = p; cycles = c; value = 0 }) (numbers_of (refused number place c))
-unfolding numbers_of
-fault_is c number place e f = rw (e, f) refl
-
--- by the case of the code's answer
-pub said : {A : Type 0} (f : A → Answer) {a b : A} {n : Numbers} → a ≡ b → n ≡ numbers_of (f b) → n ≡ numbers_of (f a)
-said {A = A} f e h = h ∙ sym (ap (λ (x : A). numbers_of (f x)) e)
-
--- by the case of a run's ending, after c cycles
-pub ended : (c : ℕ) {e f : Ending} {n : Numbers} → e ≡ f → n ≡ numbers_of (said_ending f c) → n ≡ numbers_of (said_ending e c)
-ended c e h = said (λ (x : Ending). said_ending x c) e h
 
 -- ── a budget ─────────────────────────────────────────────────────────────────────────────────
 

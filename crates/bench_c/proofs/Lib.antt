@@ -1,4 +1,3 @@
--- The numbers of an answer in the lent array, where a rule's body stands, and how tight the contracts are.
+-- The numbers of an answer in the lent array, and how tight the contracts are.
 pub mod Laying
-pub mod Places
 pub mod Tight

@@ -4,38 +4,18 @@
 // caller lends. A number that finds no place in a short array is left out. None of them asks for anything.
 ghost use Rattle.std.specs.Prelude.{◌≡◌, cond, [], leb, set};
 ghost use Rattle.model.specs.Calls.{refusal, said_check, said_load, said_mark, said_cycle, said_ending, said_run, said_write, check_call, body_call, load_call, mark_call, cycle_call, run_call, write_call};
-ghost use Rattle.lookup.specs.Tabled.{Tabled};
 ghost use Rattle.bench_c.specs.Heard.{spelt, numbers_of, stretch_of, listed, laid, heard, says_only, says_body, says, says_marks};
 
-use index::Checked;
-use model::{
-    CheckAnswer, CycleAnswer, Ending, LoadAnswer, MarkAnswer, ProcessId, Refusal, RuleId,
-    RunAnswer, WriteAnswer,
-};
-use table::Counts;
+use model::{Ending, ProcessId, Ran, Refusal, RuleId, Turn};
 
 // An answer in numbers: its word, a refusal's number and place, the cycles done, and a size or a set.
-#[derive(Clone, Copy)]
+#[derive(Clone, Copy, PartialEq, Eq, Debug)]
 pub struct Numbers {
     pub word: u64,
     pub number: u64,
     pub place: u64,
     pub cycles: u64,
     pub value: u64,
-}
-
-// A byte as a number.
-fn wide(x: u8) -> u64
-    ensures { result ≡ x }
-{
-    x as u64
-}
-
-// A length as a number.
-fn long(x: usize) -> u64
-    ensures { result ≡ x }
-{
-    x as u64
 }
 
 // A budget for the bench, which takes 32 bits: what is over the limit stays over it.
@@ -49,6 +29,7 @@ fn clip(budget: u64) -> u32
 }
 
 // An answer that is no refusal.
+#[tactic(auto, unfolding(crate::specs::Heard::spelt))]
 fn spell(word: u64, cycles: u64, value: u64) -> Numbers
     ensures { result ≡ spelt word cycles value }
 {
@@ -62,70 +43,76 @@ fn spell(word: u64, cycles: u64, value: u64) -> Numbers
 }
 
 // A refusal: 0 cycles.
+#[tactic(auto, unfolding(crate::specs::Heard::numbers_of, model::specs::Calls::refusal))]
 fn refuse(x: Refusal) -> Numbers
     ensures { result ≡ numbers_of (refusal x) }
 {
     Numbers {
         word: 0,
-        number: wide(x.number),
-        place: long(x.place),
+        number: u64::from(x.reason.number()),
+        place: x.place as u64,
         cycles: 0,
         value: 0,
     }
 }
 
 // A check: accepted or refused.
-fn of_check(a: CheckAnswer) -> Numbers
-    ensures { result ≡ numbers_of (said_check a) }
+#[tactic(auto, unfolding(model::specs::Calls::said_check, crate::specs::Heard::numbers_of))]
+fn of_check(answer: Result<(), Refusal>) -> Numbers
+    ensures { result ≡ numbers_of (said_check answer) }
 {
-    match a {
-        CheckAnswer::Accepted => spell(1, 0, 0),
-        CheckAnswer::Refused { refusal } => refuse(refusal),
+    match answer {
+        Ok(()) => spell(1, 0, 0),
+        Err(refusal) => refuse(refusal),
     }
 }
 
 // A load: the state's size.
-fn of_load(a: LoadAnswer) -> Numbers
-    ensures { result ≡ numbers_of (said_load a) }
+#[tactic(auto, unfolding(model::specs::Calls::said_load, crate::specs::Heard::numbers_of))]
+fn of_load(answer: Result<usize, Refusal>) -> Numbers
+    ensures { result ≡ numbers_of (said_load answer) }
 {
-    match a {
-        LoadAnswer::Loaded { size } => spell(2, 0, long(size)),
-        LoadAnswer::Refused { refusal } => refuse(refusal),
+    match answer {
+        Ok(size) => spell(2, 0, size as u64),
+        Err(refusal) => refuse(refusal),
     }
 }
 
 // A marking: the set; the rule numbers are laid apart.
-fn of_mark(a: MarkAnswer) -> Numbers
-    ensures { result ≡ numbers_of (said_mark a) }
+#[tactic(auto, unfolding(model::specs::Calls::said_mark, crate::specs::Heard::numbers_of))]
+fn of_mark(answer: Result<u64, Refusal>) -> Numbers
+    ensures { result ≡ numbers_of (said_mark answer) }
 {
-    match a {
-        MarkAnswer::Marks { set } => spell(3, 0, set),
-        MarkAnswer::Refused { refusal } => refuse(refusal),
+    match answer {
+        Ok(set) => spell(3, 0, set),
+        Err(refusal) => refuse(refusal),
     }
 }
 
 // A single cycle: 1 or 0 cycles.
-fn of_cycle(a: CycleAnswer) -> Numbers
-    ensures { result ≡ numbers_of (said_cycle a) }
+#[tactic(auto, unfolding(model::specs::Calls::said_cycle, crate::specs::Heard::numbers_of))]
+fn of_cycle(answer: Result<Turn, Refusal>) -> Numbers
+    ensures { result ≡ numbers_of (said_cycle answer) }
 {
-    match a {
-        CycleAnswer::Done => spell(4, 1, 0),
-        CycleAnswer::Idle => spell(5, 0, 0),
-        CycleAnswer::Refused { refusal } => refuse(refusal),
+    match answer {
+        Ok(Turn::Done) => spell(4, 1, 0),
+        Ok(Turn::Idle) => spell(5, 0, 0),
+        Err(refusal) => refuse(refusal),
     }
 }
 
-// How a run ended; a fault is refusal 9 with the cycles done before it.
-fn of_ending(e: Ending, cycles: u64) -> Numbers
-    ensures { result ≡ numbers_of (said_ending e cycles) }
+// How a run ended; a fault is a refusal with the cycles done before it.
+#[tactic(auto, unfolding(model::specs::Calls::said_ending, crate::specs::Heard::numbers_of))]
+fn of_ending(ending: Ending, cycles: u64) -> Numbers
+    ensures { result ≡ numbers_of (said_ending ending cycles) }
 {
-    match e {
+    match ending {
         Ending::Idle => spell(5, cycles, 0),
         Ending::Spent => spell(6, cycles, 0),
-        Ending::Fault { number, place } => Numbers {
+        Ending::Fault { fault, place } => Numbers {
             word: 0,
-            number: wide(number),
-            place: wide(place),
+            number: u64::from(fault.number()),
+            place: u64::from(place),
             cycles,
             value: 0,
         },
@@ -133,65 +120,50 @@ fn of_ending(e: Ending, cycles: u64) -> Numbers
 }
 
 // A run: how it ended, or a refusal before it.
-fn of_run(a: RunAnswer) -> Numbers
-    ensures { result ≡ numbers_of (said_run a) }
+#[tactic(auto, unfolding(model::specs::Calls::said_run, crate::specs::Heard::numbers_of))]
+fn of_run(answer: Result<Ran, Refusal>) -> Numbers
+    ensures { result ≡ numbers_of (said_run answer) }
 {
-    match a {
-        RunAnswer::Ended { ending, cycles } => of_ending(ending, cycles as u64),
-        RunAnswer::Refused { refusal } => refuse(refusal),
+    match answer {
+        Ok(ran) => of_ending(ran.ending, u64::from(ran.cycles)),
+        Err(refusal) => refuse(refusal),
     }
 }
 
 // Writing: the bytes written.
-fn of_write(a: WriteAnswer) -> Numbers
-    ensures { result ≡ numbers_of (said_write a) }
+#[tactic(auto, unfolding(model::specs::Calls::said_write, crate::specs::Heard::numbers_of))]
+fn of_write(answer: Result<usize, Refusal>) -> Numbers
+    ensures { result ≡ numbers_of (said_write answer) }
 {
-    match a {
-        WriteAnswer::Written { size } => spell(7, 0, long(size)),
-        WriteAnswer::Refused { refusal } => refuse(refusal),
+    match answer {
+        Ok(size) => spell(7, 0, size as u64),
+        Err(refusal) => refuse(refusal),
     }
 }
 
 // A stretch of the network file.
+#[tactic(auto, unfolding(crate::specs::Heard::stretch_of))]
 fn stretch(start: usize, len: usize) -> Numbers
     ensures { result ≡ stretch_of (record { start = start; len = len }) }
 {
     Numbers {
         word: 8,
         number: 0,
-        place: long(start),
+        place: start as u64,
         cycles: 0,
-        value: long(len),
+        value: len as u64,
     }
 }
 
-// Where the body of rule r of box b stands, by an accepted file's table.
-fn body_in(net: &[u8], table: &[u16], c: Counts, b: u64, r: u64) -> Numbers
-    requires { Tabled net.now table.now c }
-    ensures { result ≡ stretch_of (body_call net.now b r) }
-{
-    let end = net.len();
-    let boxes = c.boxes;
-    if long(boxes) <= b {
-        return stretch(end, 0);
-    }
-    let rules = lookup::rules_of(net, table, c, ProcessId(b as u8));
-    if long(rules) <= r {
-        return stretch(end, 0);
-    }
-    let at = lookup::rule_at(net, table, c, ProcessId(b as u8), RuleId(r as u8));
-    stretch(at + 3, octets::two_at(net, at + 1))
-}
-
-// The same, of any file.
+// Where the body of rule r of box b stands; there is no box and no rule whose number takes more than a byte.
 fn body(net: &[u8], b: u64, r: u64) -> Numbers
     ensures { result ≡ stretch_of (body_call net.now b r) }
 {
-    let mut table = [0u16; 656];
-    let Checked::Good(c) = network::checked(net, &mut table) else {
+    if 255 < b || 255 < r {
         return stretch(net.len(), 0);
-    };
-    body_in(net, &table, c, b, r)
+    }
+    let part = network::rule_stretch(net, ProcessId(b as u8), RuleId(r as u8));
+    stretch(part.start, part.len)
 }
 
 // One number of the lent array, if the array has that place.
@@ -218,11 +190,8 @@ fn lay(n: Numbers, answer: &mut [u64]) -> u64
 fn lay_rules(rules: &[u8], answer: &mut [u64])
     ensures { answer.new ≡ laid 4 rules.now answer.old }
 {
-    let n = rules.len();
-    let mut i: usize = 0;
-    while i < n {
-        put(answer, 4 + i, wide(octets::byte_at(rules, i)));
-        i += 1;
+    for (i, rule) in rules.iter().enumerate() {
+        put(answer, 4 + i, u64::from(*rule));
     }
 }
 
@@ -260,11 +229,9 @@ pub extern "C" fn charmolys_load(
 pub extern "C" fn charmolys_mark(net: &[u8], tokens: &[u8], state: &[u8], answer: &mut [u64]) -> u64
     ensures { heard result answer.new [] ≡ says_marks (mark_call net.now tokens.now state.now) answer.old }
 {
-    let m = bench::mark(net, tokens, state);
-    let a = m.answer;
-    let rules = m.rules;
-    let word = lay(of_mark(a), answer);
-    lay_rules(&rules, answer);
+    let marked = bench::mark(net, tokens, state);
+    let word = lay(of_mark(marked.answer), answer);
+    lay_rules(&marked.rules, answer);
     word
 }
 
@@ -293,8 +260,7 @@ pub extern "C" fn charmolys_run(
 ) -> u64
     ensures { heard result answer.new state.new ≡ says (run_call net.now tokens.now state.old budget) answer.old }
 {
-    let b = clip(budget);
-    lay(of_run(bench::run(net, tokens, state, b)), answer)
+    lay(of_run(bench::run(net, tokens, state, clip(budget))), answer)
 }
 
 // The output file, at the start of the output buffer.

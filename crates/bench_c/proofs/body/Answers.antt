@@ -1,19 +1,13 @@
-use Prim.Native.Nat.{◌≤◌}
-use lib.ListN.{length}
-use borrow.Author.Rules.{rules}
-use Rattle.network.proofs.Bodies.{bad-network, tabled}
-use Rattle.bench_c.proofs.Places.{stands}
+use mathlib.Core.Path.{sym, ap, ◌∙◌}
+use Rattle.network.proofs.Bodies.{far_box, far_rule}
+use Rattle.bench_c.specs.Heard.{stretch_of}
 use Rattle.bench_c.proofs.body.Goals as goal
+use Rattle.bench_c.proofs.body.Goals.{then-b-gt255-via-then-b-gt255, then-b-gt255-via-else-b-gt255+then-r-gt255}
 
-pub returns-in_default : goal.returns-in_default
-returns-in_default c =
-    let a = c.args in
-    stands c.stretch.ensures (bad-network a.net.now c.checked.new.tab c.checked.result a.b a.r _ _ c.in_default.is c.checked.ensures.result_after)
-
-pub body_in-requires : goal.body_in-requires
-body_in-requires c =
-    let long : 656 ≤ length c.checked.new.tab = search rules in
-    tabled c.args.net.now c.checked.new.tab c.checked.result _ long c.in-Good.is c.checked.ensures.result_after c.checked.ensures.fit
-
-pub returns : goal.returns
-returns c = c.body_in.ensures
+pub returns-then-b-gt255 : goal.returns-then-b-gt255
+returns-then-b-gt255 c =
+    c.stretch.ensures
+    ∙ ap stretch_of (sym (elim c.then-b-gt255.branch [
+      | then-b-gt255-via-then-b-gt255 w ↦ far_box _ _ _ w.if-b-gt255.true
+      | then-b-gt255-via-else-b-gt255+then-r-gt255 w ↦ far_rule _ _ _ w.if-r-gt255.true
+    ]))

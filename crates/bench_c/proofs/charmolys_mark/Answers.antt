@@ -4,5 +4,4 @@ use Rattle.bench_c.proofs.charmolys_mark.Goals as goal
 
 pub returns : goal.returns
 unfolding marked_as
-returns c =
-    heard-marks _ _ _ _ _ _ c.lay-word.ensures c.lay_rules.ensures c.of_mark.ensures c.mark-m.ensures
+returns c = heard-marks _ _ _ _ _ _ c.lay-word.ensures c.lay_rules.ensures c.of_mark.ensures c.mark-marked.ensures

@@ -5,4 +5,4 @@ use Rattle.bench_c.proofs.charmolys_run.Goals as goal
 
 pub returns : goal.returns
 returns c =
-    heard-after _ _ _ _ c.lay.ensures _ _ c.of_run.ensures (c.run.ensures.0 ∙ ap (run_call _ _ _) c.clip-b.ensures ∙ run_clipped _ _ _ _)
+    heard-after _ _ _ _ c.lay.ensures _ _ c.of_run.ensures (c.run.ensures.0 ∙ ap (run_call _ _ _) c.clip.ensures ∙ run_clipped _ _ _ _)
