@@ -9,10 +9,10 @@ use lib.ListN.{length, drop, set, length-append, length-set}
 use lib.Seq.{sets, sets-eq}
 use native.Mathlib.Numerals.{add-one}
 use borrow.Author.Tests.{le-leb, lt-ltb}
+use Rattle.std.specs.Prelude.{Result, Ok, Err}
 use Rattle.model.specs.declared.Refusal.{Refusal}
-use Rattle.model.specs.declared.Ending.{Ending}
-use Rattle.model.specs.declared.RunAnswer.{RunAnswer}
-use Rattle.model.specs.declared.RunAnswer.TheVariants as answer
+use Rattle.model.specs.declared.Ran.{Ran}
+use Rattle.model.specs.Reasons.{reason_number}
 use Rattle.model.specs.Network.{Net, State, loaded}
 use Rattle.model.specs.NetworkFile.{Verdict, good, refuse, next, or_refuse, by_verdict}
 use Rattle.model.specs.States.{bytes_of, state_size}
@@ -64,6 +64,9 @@ module _ (s ts : List ℕ) (n : Net) (e : with_tokens s ts ≡ good n) where
   abbrev ended : Ended
   ended = run n 1000 (loaded n)
 
+  abbrev told : Ran
+  told = record { ending = ended.ending; cycles = ended.cycles }
+
   few : state_size n ≤ 61088
   few =
       let a = tokens_accepted s ts n e in
@@ -98,11 +101,11 @@ module _ (s ts : List ℕ) (n : Net) (e : with_tokens s ts ≡ good n) where
     run-begins = rw (q, held_back at_load rest)
 
     -- so the run ends as the definition's
-    run_answers : (b' : List ℕ) (r : RunAnswer) → after (said_run r) b' ≡ run_call s ts b 1000 → begun r ≡ begins s ts b 1000 → r ≡ answer.Ended ended.ending ended.cycles
+    run_answers : (b' : List ℕ) (r : Result Ran Refusal) → after (said_run r) b' ≡ run_call s ts b 1000 → begun r ≡ begins s ts b 1000 → r ≡ Ok told
     unfolding after leaves said_run begun
-    run_answers b' r f g = run_one r (answer.Ended ended.ending ended.cycles) (g ∙ run-begins) (ap (λ (x : After). x.answer) (f ∙ run-leaves))
+    run_answers b' r f g = run_one r (Ok told) (g ∙ run-begins) (ap (λ (x : After). x.answer) (f ∙ run-leaves))
 
-    run_lines : (b' : List ℕ) (r : RunAnswer) → after (said_run r) b' ≡ run_call s ts b 1000 → lines_in s ts b' ≡ output_lines 0 n.procs ended.state.owns
+    run_lines : (b' : List ℕ) (r : Result Ran Refusal) → after (said_run r) b' ≡ run_call s ts b 1000 → lines_in s ts b' ≡ output_lines 0 n.procs ended.state.owns
     unfolding after leaves lines_in by_verdict
     run_lines b' r f =
         let g : b' ≡ bytes_of n ended.state ++ drop (state_size n) b = ap (λ (x : After). x.bytes) (f ∙ run-leaves) in
@@ -169,41 +172,40 @@ text_is s ts before after r h e =
 -- ── the text ─────────────────────────────────────────────────────────────────────────────────
 
 -- what the calls answer: a load's answer a leaves bytes b, the run's answer r leaves b'
-pub record Answers (s ts st b b' : List ℕ) (a : Answer) (r : RunAnswer) : Type 0 where
+pub record Answers (s ts st b b' : List ℕ) (a : Answer) (r : Result Ran Refusal) : Type 0 where
   pub long : 61088 ≤ length st
   pub load : after a b ≡ load_call s ts st
   pub run : after (said_run r) b' ≡ run_call s ts b 1000
   pub begun : begun r ≡ begins s ts b 1000
 
-module _ (s ts st b b' : List ℕ) (a : Answer) (r : RunAnswer) (h : Answers s ts st b b' a r) where
-  says-refused : (x : Refusal) → r ≡ answer.Refused x → refused_line x.number x.place ≡ printed s ts
+module _ (s ts st b b' : List ℕ) (a : Answer) (r : Result Ran Refusal) (h : Answers s ts st b b' a r) where
+  says-refused : (x : Refusal) → r ≡ Err x → refused_line (reason_number x.reason) x.place ≡ printed s ts
   unfolding begun after keeps said_run refusal
   says-refused x q = go (with_tokens s ts) refl
     where
-      go : (v : Verdict Net) → with_tokens s ts ≡ v → refused_line x.number x.place ≡ printed s ts
+      go : (v : Verdict Net) → with_tokens s ts ≡ v → refused_line (reason_number x.reason) x.place ≡ printed s ts
       go (good n) e =
           let f = run_answers s ts n e b (drop (state_size n) st) (load-leaves s ts n e st a b h.long h.load) b' r h.run h.begun in
           absurd (let z : ◌≡◌ {A = ℕ} 0 1 = cc in omega arith)
       go (refuse m p) e =
           let f : said_run r ≡ refused m p 0 = ap (λ (y : After). y.answer) (h.run ∙ run_refuses s ts b m p e) in
-          let g : said_run (answer.Refused x) ≡ refused m p 0 = ap said_run (sym q) ∙ f in
-          let i : x.number ≡ m = cc in
+          let g : said_run (Err x) ≡ refused m p 0 = ap said_run (sym q) ∙ f in
+          let i : reason_number x.reason ≡ m = cc in
           let j : x.place ≡ p = cc in
           rw (i, j) (sym (printed-bad s ts b m p e))
 
-  pub refused_text : (x y : Refusal) → r ≡ answer.Refused x → y ≡ refusal_of r → refused_line y.number y.place ≡ printed s ts
+  pub refused_text : (x y : Refusal) → r ≡ Err x → y ≡ refusal_of r → refused_line (reason_number y.reason) y.place ≡ printed s ts
   unfolding refusal_of
-  refused_text x y q e = ap (λ (z : Refusal). refused_line z.number z.place) (e ∙ ap refusal_of q) ∙ says-refused x q
+  refused_text x y q e = ap (λ (z : Refusal). refused_line (reason_number z.reason) z.place) (e ∙ ap refusal_of q) ∙ says-refused x q
 
-  pub says_ended : (x : Ending) (c : ℕ) → r ≡ answer.Ended x c → outcome_line x c ++ lines_in s ts b' ≡ printed s ts
+  pub says_ended : (x : Ran) → r ≡ Ok x → outcome_line x.ending x.cycles ++ lines_in s ts b' ≡ printed s ts
   unfolding begun
-  says_ended x c q = go (with_tokens s ts) refl
+  says_ended x q = go (with_tokens s ts) refl
     where
-      go : (v : Verdict Net) → with_tokens s ts ≡ v → outcome_line x c ++ lines_in s ts b' ≡ printed s ts
+      go : (v : Verdict Net) → with_tokens s ts ≡ v → outcome_line x.ending x.cycles ++ lines_in s ts b' ≡ printed s ts
       go (refuse m p) e = absurd (let f : true ≡ false = sym (ap begun q) ∙ h.begun ∙ never_begins s ts b m p e in let z : ◌≡◌ {A = ℕ} 0 1 = cc in omega arith)
       go (good n) e =
           let l = load-leaves s ts n e st a b h.long h.load in
-          let f : answer.Ended x c ≡ answer.Ended (run n 1000 (loaded n)).ending (run n 1000 (loaded n)).cycles = sym q ∙ run_answers s ts n e b (drop (state_size n) st) l b' r h.run h.begun in
-          let i : x ≡ (run n 1000 (loaded n)).ending = cc in
-          let j : c ≡ (run n 1000 (loaded n)).cycles = cc in
-          rw (i, j, run_lines s ts n e b (drop (state_size n) st) l b' r h.run) (sym (printed_good s ts n e))
+          let f : Ok x ≡ Ok (told s ts n e) = sym q ∙ run_answers s ts n e b (drop (state_size n) st) l b' r h.run h.begun in
+          let i : x ≡ told s ts n e = cc in
+          rw (i, run_lines s ts n e b (drop (state_size n) st) l b' r h.run) (sym (printed_good s ts n e))

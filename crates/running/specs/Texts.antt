@@ -1,14 +1,14 @@
 -- The refusal that a run's answer holds, and a buffer that holds the text.
 -- Assumes nothing.
-use Rattle.std.specs.Prelude.{ℕ, ◌≤◌, ◌≡◌, List, ◌++◌, length, drop}
+use Rattle.std.specs.Prelude.{ℕ, ◌≤◌, ◌≡◌, List, ◌++◌, length, drop, Result, Ok, Err}
+use Rattle.model.specs.declared.Ran.{Ran}
+use Rattle.model.specs.declared.Reason.TheVariants.{Form}
 use Rattle.model.specs.declared.Refusal.{Refusal}
-use Rattle.model.specs.declared.RunAnswer.{RunAnswer}
-use Rattle.model.specs.declared.RunAnswer.TheVariants as answer
 use Rattle.model.specs.Printing.{printed}
 
-unfoldable pub refusal_of : RunAnswer → Refusal
-refusal_of (answer.Ended e c) = record { number = 0; place = 0 }
-refusal_of (answer.Refused r) = r
+unfoldable pub refusal_of : Result Ran Refusal → Refusal
+refusal_of (Ok r) = record { reason = Form; place = 0 }
+refusal_of (Err r) = r
 
 -- the r bytes at the start are what is printed for network file s and token file ts, and the rest is as it was
 pub record Printed (s ts before after : List ℕ) (r : ℕ) : Type 0 where

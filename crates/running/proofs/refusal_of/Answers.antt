@@ -2,10 +2,10 @@ use mathlib.Core.Path.{sym, ap}
 use Rattle.running.specs.Texts.{refusal_of}
 use Rattle.running.proofs.refusal_of.Goals as goal
 
-pub returns-in-Refused : goal.returns-in-Refused
+pub returns-in-Err : goal.returns-in-Err
 unfolding refusal_of
-returns-in-Refused c = sym (ap refusal_of c.in-Refused.is)
+returns-in-Err c = sym (ap refusal_of c.in-Err.is)
 
-pub returns-in-Ended : goal.returns-in-Ended
+pub returns-in-Ok : goal.returns-in-Ok
 unfolding refusal_of
-returns-in-Ended c = sym (ap refusal_of c.in-Ended.is)
+returns-in-Ok c = sym (ap refusal_of c.in-Ok.is)
