@@ -1,7 +1,7 @@
 #![tactic(auto)]
 
 // The opening of a call: the checks of its files and of the lent state, in the order of document 01.
-ghost use Rattle.std.specs.Prelude.{◌≤◌, length};
+ghost use Rattle.std.specs.Prelude.{◌≡◌, ◌≤◌, length, replicate};
 ghost use Rattle.opening.specs.Opening.{NetworkOpened, FilesOpened, Held, StateOpened};
 
 use model::{Reason, Refusal};
@@ -19,7 +19,9 @@ pub struct Tables {
 
 impl Tables {
     // Tables that are yet to be filled.
-    pub fn new() -> Tables {
+    pub fn new() -> Tables
+        ensures { (result.table ≡ replicate 656 0) × (result.starts ≡ replicate 113 0) × (result.fields ≡ replicate 8 0) }
+    {
         Tables {
             table: [0; 656],
             starts: [0; 113],
