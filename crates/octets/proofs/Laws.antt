@@ -12,7 +12,7 @@ use lib.Signed.{mag, non_neg}
 use lib.ListN.{length, get_or, take, drop}
 use lib.Seq.{get_or-drop}
 use mir.Syntax.{w32, w64}
-use mir.Val.{Fits, to_z, of_z}
+use mir.Val.{SFits, Fits, to_z, of_z}
 use mir.Facts.{to_z_pos, to_z-of_z}
 use borrow.Author.Tests.{lt-ltb, le-ltb, ltb-true, ltb-false}
 use Rattle.model.specs.declared.Token.{Token}
@@ -191,6 +191,10 @@ signed_bits n h = go (ltb n 2147483648) refl
     go : (b : Bool) → ltb n 2147483648 ≡ b → to_z w32 n ≡ signed_of 32 n
     go true e = rw e (sym (signed_low n (ltb-true n 2147483648 e)))
     go false e = let g = ltb-false n 2147483648 e in rw e (ap negsuc (omega arith) ∙ sym (signed_high n g ∙ high_is n h))
+
+-- four bytes less 2^32, in 64 bits
+pub less_fits : (n : ℕ) → n < 4294967296 → SFits w64 (to_z w64 n -ℤ pos 4294967296)
+less_fits n h = rw (to_z_pos w64 {n = n} (omega arith), high_is n h) (record { sfits = omega arith })
 
 -- the value of a number of four bytes
 pub value_read : (s : List ℕ) (at n : ℕ) (z y : ℤ) → n ≡ four_at s at → n < 4294967296 → z ≡ to_z w32 n → y ≡ to_z w32 (of_z w32 z)

@@ -55,6 +55,11 @@ digits_done s i n b m l h f e d =
 
 -- ── the sign ─────────────────────────────────────────────────────────────────────────────────
 
+-- a value's size, as four bytes hold it
+pub abs_small : (z : ℤ) → mag z < 2147483648 → nat_abs z < 4294967296
+abs_small (pos n) h = omega arith
+abs_small (negsuc n) h = omega arith
+
 -- the digits of a value's size, behind a minus for one below zero
 pub minus_first : (z : ℤ) (n : ℕ) → SFits w64 z → n ≡ nat_abs (to_z w64 (of_z w64 z)) → lt_z (to_z w64 (of_z w64 z)) (pos 0) ≡ true → 45 ∷ decimal n ≡ signed z
 minus_first z n f e t = let b = to_z-of_z {w = w64} f in ap (λ (j : ℕ). 45 ∷ decimal j) (rw b at e) ∙ go z (rw b at t)

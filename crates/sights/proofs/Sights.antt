@@ -118,6 +118,17 @@ module _ (n : Net) (s : State) (ws : List ℕ) (j w : ℕ) (p : List ℕ) (found
     each = set_next (λ i. hit (full n s (get_or ws i 0))) 0 v j a l q.each (e ∙ ap hit (ap full_in bytes ∙ full_is n s w (g.most w)) ∙ ap (λ (i : ℕ). hit (full n s i)) found);
   }
 
+-- all turns done, where the wires found are those of the ports
+module _ (n : Net) (s : State) (ws us : List ℕ) (j : ℕ) (all : j ≡ length us) (same : (i : ℕ) → i < length us → get_or ws i 0 ≡ get_or us i 0) where
+  pub oldest_all : (h : List ℕ) (v : List ℤ) → Oldest s ws j h v → Oldest s us (length us) h v
+  oldest_all h v q = record {
+    heads = λ i l. q.heads i (omega (arith, l, all)) ∙ ap (λ (k : ℕ). head_of (queue s k)) (same i l);
+    values = λ i l. q.values i (omega (arith, l, all)) ∙ ap (λ (k : ℕ). (oldest (queue s k)).value) (same i l);
+  }
+
+  pub fulls_all : (v : List ℕ) → Fulls n s ws j v → Fulls n s us (length us) v
+  fulls_all v q = record { each = λ i l. q.each i (omega (arith, l, all)) ∙ ap (λ (k : ℕ). hit (full n s k)) (same i l) }
+
 -- four answers
 four : {A : Type 0} (n : ℕ) (f : ℕ → A) (d a b c e : A) → n ≤ 4 → (0 < n → a ≡ f 0) → (1 < n → b ≡ f 1) → (2 < n → c ≡ f 2) → (3 < n → e ≡ f 3)
     → (j : ℕ) → j < n → get_or (a ∷ b ∷ c ∷ e ∷ []) j d ≡ f j

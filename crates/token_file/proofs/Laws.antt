@@ -57,6 +57,7 @@ pub record Went (types : List Ty) (f : List ℕ) (before : List (List Token)) (i
   pub more : left types f before i at ≡ left types f (before ++ (tokens_in (body_at f at) ∷ [])) (i + 1) end
   pub inside : InFile f at
   pub below : end ≤ length f
+  pub above : at < end
 
 module _ (types : List Ty) (f : List ℕ) (before : List (List Token)) (i at : ℕ) (t : Ty) (l : i < length types) (e : get_or types i no_type ≡ t) where
   type_same : (d : Field) (b : Bool) → token_field t d.tag (stretch f d.start d.len) ≡ b → token_field (get_or types i no_type) d.tag (stretch f d.start d.len) ≡ b
@@ -85,6 +86,7 @@ module _ (types : List Ty) (f : List ℕ) (before : List (List Token)) (i at : �
             more = tokens_field types f before i at d l g (type_same d true q) ∙ ap₂ (λ (b : List ℕ) (o : ℕ). left types f (before ++ (tokens_in b ∷ [])) (i + 1) o) k.body m;
             inside = k.inside;
             below = omega (arith, k.ends, m);
+            above = omega (arith, k.start_is, m);
           }
       by_test d false g q = absurd (let z = end_bad f t at d g q ∙ sym p in cc)
 

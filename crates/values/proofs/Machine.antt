@@ -2,8 +2,9 @@
 -- Assumes nothing.
 use mathlib.Core.Path.{◌≡◌, refl, sym, ap, ◌∙◌}
 use mathlib.Core.Bool.{Bool, true, false, cond}
+use mathlib.Core.Logic.{⊎_elim, ◌⊎◌, inl, inr}
 use Prim.Native.Nat.{ℕ, zero, suc, ◌+◌, ◌-◌, ◌*◌, ◌/◌, ◌%◌, ◌^◌, ◌≤◌, ◌<◌}
-use native.Mathlib.Nat.{div-le_self, mod-lt, mul-le-mul, le_trans, lt_of_le_of_lt, pos_of_ne-zero}
+use native.Mathlib.Nat.{div-le_self, mod-lt, mod-eq_of_lt, suc-mod, mod_self, eq-or-lt_of_le, mul-le-mul, le_trans, lt_of_le_of_lt, pos_of_ne-zero}
 use native.Mathlib.Omega.{arith}
 use lib.Dec.{T, leb, ltb, eqb, lit<}
 use lib.IntN.{ℤ, pos, negsuc, neg_ℤ, nat_abs, sub_ℕ, ◌+ℤ◌, ◌-ℤ◌, ◌*ℤ◌}
@@ -16,7 +17,7 @@ use lib.Pow.{pow_pos, pow_mono, shl_exact}
 use mir.Syntax.{w64}
 use mir.Val.{SFits, Fits, to_z, of_z}
 use mir.Facts.{to_z_pos, to_z-of_z}
-use borrow.Author.Tests.{lt-ltb, le-leb, lt-leb, ltb-true, ltb-false, eq-eqb, ne_eqb, eqb-true, eqb-false}
+use borrow.Author.Tests.{lt-ltb, le-ltb, le-leb, lt-leb, ltb-true, ltb-false, eq-eqb, ne_eqb, eqb-true, eqb-false}
 use Rattle.model.specs.Bytes.{mod_z}
 use Rattle.model.specs.Values.{eq_z}
 use Rattle.model.proofs.Wrapping.{mod_z_lt}
@@ -114,6 +115,48 @@ pub less_fits : (n m : ℕ) → n < m → m ≤ 4611686018427387904 → SFits w6
 less_fits n zero h l = absurd (omega arith)
 less_fits n (suc m) h l = record { sfits = rw (lt-ltb n (suc m) h) (omega arith) }
 
+-- ── the remainder modulo 2^p ─────────────────────────────────────────────────────────────────
+
+-- suc a % m, by whether a % m is the last
+suc-mod_cases : (a m : ℕ) → 0 < m → ((suc a % m ≡ 0) × (suc (a % m) ≡ m)) ⊎ (suc a % m ≡ suc (a % m))
+suc-mod_cases a m h = ⊎_elim (λ e. inl (suc-mod a m ∙ ap (λ (k : ℕ). k % m) e ∙ mod_self m, e)) (λ l. inr (suc-mod a m ∙ mod-eq_of_lt l)) (eq-or-lt_of_le (mod-lt a h))
+
+low_go : (a m k : ℕ) → 0 < m → suc a % m ≡ k → lt_z (neg_ℤ (pos k)) (pos 0) ≡ true → neg_ℤ (pos k) +ℤ pos m ≡ pos (m - suc (a % m))
+low_go a m zero h e t = cc
+low_go a m (suc k) h e t =
+    ⊎_elim (λ w. absurd (omega arith))
+    (λ w. rw (le-ltb m (suc k) (omega (arith, mod-lt a h))) (ap pos (omega arith)))
+    (suc-mod_cases a m h)
+
+high_go : (a m k : ℕ) → 0 < m → suc a % m ≡ k → lt_z (neg_ℤ (pos k)) (pos 0) ≡ false → neg_ℤ (pos k) ≡ pos (m - suc (a % m))
+high_go a m zero h e t = ⊎_elim (λ w. ap pos (omega arith)) (λ w. absurd (omega arith)) (suc-mod_cases a m h)
+high_go a m (suc k) h e t = cc
+
+-- a negative remainder, plus m
+pub rem_low : (x : ℤ) (m : ℕ) → 0 < m → lt_z (rem_z x (pos m)) (pos 0) ≡ true → rem_z x (pos m) +ℤ pos m ≡ pos (mod_z x m)
+unfolding mod_z
+rem_low (pos a) m h t = absurd (omega (arith, ltb-true (a % m) 0 t))
+rem_low (negsuc a) m h t = low_go a m (suc a % m) h refl t
+
+-- one that is not
+pub rem_high : (x : ℤ) (m : ℕ) → 0 < m → lt_z (rem_z x (pos m)) (pos 0) ≡ false → rem_z x (pos m) ≡ pos (mod_z x m)
+unfolding mod_z
+rem_high (pos a) m h t = refl
+rem_high (negsuc a) m h t = high_go a m (suc a % m) h refl t
+
+-- x % 2^p, as the machine has it
+module _ (p : ℕ) (x : ℤ) {r : ℤ} (hx : SFits w64 x) (hp : p ≤ 62) (e : r ≡ pos (2 ^ p)) where
+  quot_small : (y : ℤ) → mag y < 2 ^ 63 → mag (quot_z y (pos (2 ^ p))) < 2 ^ 63
+  quot_small (pos a) h = omega (arith, div-le_self a (2 ^ p))
+  quot_small (negsuc a) h = neg_small (suc a / 2 ^ p) (omega (arith, div-le_self (suc a) (2 ^ p)))
+    where
+      neg_small : (q : ℕ) → q ≤ 2 ^ 63 → mag (neg_ℤ (pos q)) < 2 ^ 63
+      neg_small zero l = lit< tt
+      neg_small (suc q) l = omega arith
+
+  pub rem_need : (0 < of_z w64 r) × SFits w64 (quot_z (to_z w64 (of_z w64 x)) (to_z w64 (of_z w64 r)))
+  rem_need = (rw e (pow_pos p), rw (to_z-of_z hx, pow_is p hp e) (record { sfits = quot_small x hx.sfits }))
+
 -- ── sums, products and quotients of values of 32 bits ────────────────────────────────────────
 
 mag_neg_pos : (n : ℕ) → mag (neg_ℤ (pos n)) ≤ n
@@ -191,8 +234,11 @@ module _ (m : ℕ) {r : ℤ} (h : 0 < m) (l : m ≤ 4611686018427387904) (e : r 
   least_as : pos 0 -ℤ to_z w64 (of_z w64 r) ≡ neg_ℤ (pos m)
   least_as = rw (pos_is e (omega arith)) (neg_is m h)
 
+  pub least_fits : SFits w64 (pos 0 -ℤ to_z w64 (of_z w64 r))
+  least_fits = rw least_as (record { sfits = omega (arith, mag_neg_pos m) })
+
   pub least_is : to_z w64 (of_z w64 (pos 0 -ℤ to_z w64 (of_z w64 r))) ≡ neg_ℤ (pos m)
-  least_is = to_z-of_z {w = w64} (rw least_as (record { sfits = omega (arith, mag_neg_pos m) })) ∙ least_as
+  least_is = to_z-of_z {w = w64} least_fits ∙ least_as
 
   pub end_is : to_z w64 (of_z w64 r) ≡ pos m
   end_is = pos_is e (omega arith)
