@@ -1,7 +1,7 @@
 #![tactic(auto)]
 
 // A rule's guard and actions, each worked out from the part of the rule body where it begins.
-ghost use Rattle.std.specs.Prelude.{◌≡◌, true, false, ◌≤◌, ◌<◌, length, drop};
+ghost use Rattle.std.specs.Prelude.{◌≡◌, Bool, true, ◌≤◌, ◌<◌, length, drop};
 ghost use Rattle.model.specs.Expressions.{expression, value_of};
 ghost use Rattle.model.specs.Cycles.{or_zero, result as result_of, new_var};
 ghost use Rattle.expressions.specs.Reading.{limits_read};
@@ -91,12 +91,13 @@ fn action_fault(b: &[u8], at: usize, env: &Env) -> Result<(), Fault>
     Ok(())
 }
 
-// The first fault among n actions from an offset on. What can be a variable's can be an output's.
+// The first fault among n actions from an offset on, which are a variable's or an output's: the code is the same for both.
 pub fn actions_fault(b: &[u8], from: usize, n: usize, env: &Env) -> Result<(), Fault>
+    ghost var: { Bool }
     requires n_bound { n ≤ 4 }
-    requires b_value { limits_of (actions_from false n from b.now) ≡ true }
-    requires b_value_2 { all_typed (scope_in env.now.types) (list_read (actions_from false n from b.now)) ≡ true }
-    ensures { result ≡ faults_of (named_by env.now) (list_read (actions_from false n from b.now)) }
+    requires b_value { limits_of (actions_from var n from b.now) ≡ true }
+    requires b_value_2 { all_typed (scope_in env.now.types) (list_read (actions_from var n from b.now)) ≡ true }
+    ensures { result ≡ faults_of (named_by env.now) (list_read (actions_from var n from b.now)) }
 {
     let mut at = from;
     for _action in 0..n {

@@ -16,11 +16,10 @@ use Rattle.model.specs.Cycles.{attempt, guarded, chosen, fires}
 use Rattle.types.specs.Scopes.{scope_in}
 use Rattle.shapes.specs.declared.Arity.{Arity}
 use Rattle.rules.specs.declared.Parts.{Parts}
-use Rattle.expressions.specs.Reading.{is_read, limits_read}
+use Rattle.expressions.specs.Reading.{limits_read}
 use Rattle.rules.specs.Bodies.{actions_from, limits_of}
 use Rattle.rules.proofs.Laying.{Found, rule_is, rule_read_lem}
 use Rattle.typing.specs.Fits.{exp_read, list_read}
-use Rattle.typing.proofs.Actions.{outputs_too, limits_read_lem}
 use Rattle.matching.specs.Outs.{open_from, outs_of}
 use Rattle.actions.specs.Acts.{has_type, all_typed, faults_of, mark_or}
 use Rattle.actions.proofs.Acting.{Ready}
@@ -55,12 +54,8 @@ module _ (a : Arity) (b : List ℕ) (types : List ℕ) (w : Workable a b types) 
   outs_is : (at : ℕ) → at ≡ p.outs → list_read (actions_from false a.outs at b) ≡ ru.outs
   outs_is at e = ap (λ (k : ℕ). list_read (actions_from false a.outs k b)) e ∙ (held w.laid).outs
 
-  -- a variable's actions, read as an output's
-  sets_too : (at : ℕ) → at ≡ p.sets → actions_from false a.vars at b ≡ actions_from true a.vars at b
-  sets_too at e = outputs_too a.vars at b (ap (λ (k : ℕ). is_read (actions_from true a.vars k b)) e ∙ limits_read_lem _ w.kept.sets)
-
-  sets_is : (at : ℕ) → at ≡ p.sets → list_read (actions_from false a.vars at b) ≡ ru.sets
-  sets_is at e = ap list_read (sets_too at e) ∙ ap (λ (k : ℕ). list_read (actions_from true a.vars k b)) e ∙ (held w.laid).sets
+  sets_is : (at : ℕ) → at ≡ p.sets → list_read (actions_from true a.vars at b) ≡ ru.sets
+  sets_is at e = ap (λ (k : ℕ). list_read (actions_from true a.vars k b)) e ∙ (held w.laid).sets
 
   -- what the guard and the actions ask for, from where they begin
   pub guard_ready : (at : ℕ) → at ≡ p.guard → (limits_read (expression (drop at b)) ≡ true) × (has_type (scope_in types) (exp_read (expression (drop at b))) ≡ true)
@@ -69,11 +64,8 @@ module _ (a : Arity) (b : List ℕ) (types : List ℕ) (w : Workable a b types) 
   pub outs_ready : (at : ℕ) → at ≡ p.outs → Ready (scope_in types) false b a.outs at
   outs_ready at e = record { limits = ap (λ (k : ℕ). limits_of (actions_from false a.outs k b)) e ∙ w.kept.outs; typed = ap (all_typed (scope_in types)) (outs_is at e) ∙ w.judged.outs }
 
-  pub sets_ready : (at : ℕ) → at ≡ p.sets → Ready (scope_in types) false b a.vars at
-  sets_ready at e = record {
-    limits = ap limits_of (sets_too at e) ∙ ap (λ (k : ℕ). limits_of (actions_from true a.vars k b)) e ∙ w.kept.sets;
-    typed = ap (all_typed (scope_in types)) (sets_is at e) ∙ w.judged.sets;
-  }
+  pub sets_ready : (at : ℕ) → at ≡ p.sets → Ready (scope_in types) true b a.vars at
+  sets_ready at e = record { limits = ap (λ (k : ℕ). limits_of (actions_from true a.vars k b)) e ∙ w.kept.sets; typed = ap (all_typed (scope_in types)) (sets_is at e) ∙ w.judged.sets }
 
   module _ (en : Env) where
     -- the chosen rule: a fault of its outputs, a fault of its variables, none
@@ -82,7 +74,7 @@ module _ (a : Arity) (b : List ℕ) (types : List ℕ) (w : Workable a b types) 
       outs_faults = faults_of en (list_read (actions_from false a.outs x b))
 
       abbrev sets_faults : Result ⊤ Fault
-      sets_faults = faults_of en (list_read (actions_from false a.vars y b))
+      sets_faults = faults_of en (list_read (actions_from true a.vars y b))
 
       chosen_is : chosen en ru 0 ≡ mark_or outs_faults (mark_or sets_faults (fires 0))
       chosen_is = chosen_faults en ru 0 ∙ rw (outs_is x ex, sets_is y ey)

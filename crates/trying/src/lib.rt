@@ -1,13 +1,16 @@
 #![tactic(auto)]
 
 // A box's rules tried in the file's order against what the box sees.
-ghost use Rattle.std.specs.Prelude.{◌≡◌, ◌+◌, ◌≤◌, ◌<◌, length};
+ghost use Rattle.std.specs.Prelude.{◌≡◌, true, ◌+◌, ◌≤◌, ◌<◌, length};
 ghost use Rattle.model.specs.Values.{is_true};
 ghost use Rattle.model.specs.Rules.{rule_read, read_rule};
 ghost use Rattle.model.specs.Cycles.{chosen as chosen_of, first, up_from};
+ghost use Rattle.types.specs.Scopes.{scope_in};
 ghost use Rattle.evaluation.specs.Named.{named_by};
+ghost use Rattle.typing.specs.Fits.{list_read};
+ghost use Rattle.actions.specs.Acts.{all_typed, faults_of};
 ghost use Rattle.shapes.specs.Shapes.{types_in};
-ghost use Rattle.rules.specs.Bodies.{layout_of, Parted, outs_at};
+ghost use Rattle.rules.specs.Bodies.{layout_of, Parted, outs_at, actions_from, limits_of};
 ghost use Rattle.trying.specs.Views.{token_of, view_env, judge_of, mark_as};
 ghost use Rattle.trying.specs.Scenes.{trial, settled};
 ghost use Rattle.trying.specs.Working.{AtGuard, AtActions, Settled, Rules, Smalls, judged_as};
@@ -57,13 +60,23 @@ fn is_true(z: i64) -> bool
     z != 0
 }
 
+// The first fault among the actions of n variables.
+fn sets_fault(b: &[u8], sets: usize, n: usize, env: &Env) -> Result<(), Fault>
+    requires n_bound { n ≤ 4 }
+    requires limits { limits_of (actions_from true n sets b.now) ≡ true }
+    requires typed { all_typed (scope_in env.now.types) (list_read (actions_from true n sets b.now)) ≡ true }
+    ensures { result ≡ faults_of (named_by env.now) (list_read (actions_from true n sets b.now)) }
+{
+    actions::actions_fault(b, sets, n, env)
+}
+
 // A rule whose guard is true: its actions are worked out for faults, those of outputs first.
 fn chosen(b: &[u8], outs: usize, sets: usize, a: Arity, env: &Env) -> Result<bool, Fault>
     requires { AtActions a b.now outs sets env.now.types }
     ensures { result ≡ judged_as (chosen_of (named_by env.now) (rule_read (read_rule a.ins a.outs a.vars b.now)) 0) }
 {
     actions::actions_fault(b, outs, a.outs, env)?;
-    actions::actions_fault(b, sets, a.vars, env)?;
+    sets_fault(b, sets, a.vars, env)?;
     Ok(true)
 }
 
