@@ -1,23 +1,37 @@
 -- The ways out of writing the outputs.
 -- Assumes nothing.
-use mathlib.Core.Path.{◌≡◌, refl}
+use mathlib.Core.Path.{◌≡◌, refl, ap}
 use mathlib.Core.Bool.{false}
-use mathlib.Core.List.{List, ◌++◌}
+use mathlib.Core.List.{List, [], ◌∷◌, ◌++◌}
 use Prim.Native.Nat.{ℕ, ◌≤◌, ◌<◌}
 use native.Mathlib.Omega.{arith}
 use lib.ListN.{length, drop}
 use borrow.Author.Tests.{le-leb, lt-leb}
 use Rattle.std.specs.Prelude.{Err}
+use Rattle.model.specs.declared.Ty.{Ty}
 use Rattle.model.specs.declared.Refusal.{Refusal}
 use Rattle.model.specs.Network.{Net}
-use Rattle.model.specs.NetworkFile.{good, next, or_refuse, by_verdict, network}
-use Rattle.model.specs.States.{state_size, state_in, output_file}
+use Rattle.model.specs.NetworkFile.{good, next, or_refuse, by_verdict, network, field_at, net_of}
+use Rattle.model.specs.States.{tokens_from, token_file, input_tokens, state_size, state_in, output_file}
 use Rattle.model.specs.Calls.{After, written, refused, refusal, said_write, keeps, without_tokens, roomy, held, file_in, write_call}
+use Rattle.table.specs.declared.Counts.{Counts}
+use Rattle.table.specs.Table.{index_in}
 use Rattle.lookup.specs.Views.{network_of}
 use Rattle.places.specs.declared.Plan.{Plan}
+use Rattle.places.specs.Standing.{bare_net, found, tokens_of, net_in}
 use Rattle.states.specs.Saved.{Holds}
 use Rattle.opening.specs.Opening.{Refuses}
 use Rattle.bench.specs.Afters.{after, write_in}
+
+-- an empty token file has no tokens
+none_found : (types : List Ty) → found (token_file types []) ≡ []
+unfolding found token_file tokens_from or_refuse next input_tokens field_at
+none_found [] = refl
+none_found (t ∷ ts) = refl
+
+pub no_tokens_lem : (s t : List ℕ) (c : Counts) → net_in s t c [] ≡ bare_net s t c
+unfolding net_in bare_net tokens_of
+no_tokens_lem s t c = ap (net_of s (index_in t c)) (none_found _)
 
 -- ── once the network file is accepted ────────────────────────────────────────────────────────
 

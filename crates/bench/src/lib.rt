@@ -49,7 +49,7 @@ pub fn load(net: &[u8], tokens: &[u8], state: &mut [u8]) -> Result<usize, Refusa
     ensures { after (said_load result) state.new ≡ load_call net.now tokens.now state.old }
 {
     let mut tables = Tables::new();
-    let feed = opening::open_files(net, tokens, &mut tables)?;
+    let feed = tables.open_files(net, tokens)?;
     load_in(&feed.site.plan, state)
 }
 
@@ -84,7 +84,7 @@ pub fn mark(net: &[u8], tokens: &[u8], state: &[u8]) -> Marked
     ensures { marked_as result ≡ mark_call net.now tokens.now state.now }
 {
     let mut tables = Tables::new();
-    match opening::open_state(net, tokens, state, &mut tables) {
+    match tables.open_state(net, tokens, state) {
         Ok(feed) => mark_in(&feed, state),
         Err(refusal) => unmarked(refusal),
     }
@@ -95,7 +95,7 @@ pub fn cycle(net: &[u8], tokens: &[u8], state: &mut [u8], order: &[u8]) -> Resul
     ensures { after (said_cycle result) state.new ≡ cycle_call net.now tokens.now state.old order.now }
 {
     let mut tables = Tables::new();
-    let feed = opening::open_state(net, tokens, state, &mut tables)?;
+    let feed = tables.open_state(net, tokens, state)?;
     cycling::cycle_in(&feed, order, state)
 }
 
@@ -110,7 +110,7 @@ pub fn run(net: &[u8], tokens: &[u8], state: &mut [u8], budget: u32) -> Result<R
         });
     }
     let mut tables = Tables::new();
-    let feed = opening::open_state(net, tokens, state, &mut tables)?;
+    let feed = tables.open_state(net, tokens, state)?;
     Ok(cycling::run_in(&feed, budget, state))
 }
 
@@ -135,6 +135,6 @@ pub fn write_outputs(net: &[u8], state: &[u8], out: &mut [u8]) -> Result<usize, 
     ensures { after (said_write result) out.new ≡ write_call net.now state.now out.old }
 {
     let mut tables = Tables::new();
-    let plan = opening::open_network(net, &mut tables)?;
+    let plan = tables.open_network(net)?;
     write_in(&plan, state, out)
 }

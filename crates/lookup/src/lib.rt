@@ -8,16 +8,16 @@ ghost use Rattle.lookup.specs.Tabled.{Tabled};
 use model::{ProcessId, RuleId, Ty, WireId};
 use table::Counts;
 
-// An accepted network: its file, and the table of the offsets of its fields with their counts.
+// An accepted network: its file, and the table of the offsets of its fields with their counts. A part of the file may outlive the table.
 #[derive(Clone, Copy)]
-pub struct Net<'a> {
+pub struct Net<'a, 't> {
     pub file: &'a [u8],
-    pub table: &'a [u16],
+    pub table: &'t [u16],
     pub counts: Counts,
     pub ghost tabled: { Tabled file.now table.now counts } by { Tabled_prop file.now table.now counts },
 }
 
-impl<'a> Net<'a> {
+impl<'a, 't> Net<'a, 't> {
     ghost use Rattle.std.specs.Prelude.{◌≡◌, cond, ◌+◌, ◌≤◌, ◌<◌, ltb, length, get_or};
     ghost use Rattle.model.specs.Bytes.{two_at};
     ghost use Rattle.model.specs.Network.{output, wire, proc};

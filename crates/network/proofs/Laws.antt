@@ -1,11 +1,10 @@
 -- The ways out of the whole check.
 -- Assumes nothing.
-use mathlib.Core.Path.{◌≡◌, refl, subst}
+use mathlib.Core.Path.{◌≡◌, refl}
 use mathlib.Core.List.{List, []}
 use Prim.Native.Nat.{ℕ, ◌≤◌, ◌<◌}
 use lib.ListN.{length}
 use borrow.Author.Tests.{le-leb, lt-leb, lt-ltb, le-ltb}
-use Rattle.lookup.specs.declared.Net.{Net}
 use Rattle.model.specs.NetworkFile.{Index, good, refuse, next, or_refuse, by_verdict, fields, odd_wire, ports_of, net_of, network}
 use Rattle.model.specs.Calls.{accepted, refused, check_call}
 
@@ -29,10 +28,10 @@ module _ (s : List ℕ) (l : length s ≤ 16384) where
 
 -- ── as a call ────────────────────────────────────────────────────────────────────────────────
 
-pub said_bad : (s : List ℕ) (n p : ℕ) → network s ≡ refuse n p → refused n p 0 ≡ check_call s
+pub said_bad : (s : List ℕ) (n p : ℕ) → refuse n p ≡ network s → refused n p 0 ≡ check_call s
 unfolding check_call by_verdict
-said_bad s n p e = rw e refl
+said_bad s n p e = rw (← e) refl
 
-pub said_good : (s : List ℕ) (n : Net) → n.file.now ≡ s → accepted ≡ check_call s
+pub said_good : (s : List ℕ) (x : Index) → good x ≡ network s → accepted ≡ check_call s
 unfolding check_call by_verdict
-said_good s n e = subst (λ (l : List ℕ). accepted ≡ check_call l) e (rw n.tabled.found refl)
+said_good s x e = rw (← e) refl

@@ -1,21 +1,26 @@
 #![tactic(auto)]
 
 // The whole check of a network file: its length, then the fields, then the ports. And where the bodies of an accepted file's rules lie.
-ghost use Rattle.std.specs.Prelude.{◌≡◌, ◌+◌, ◌≤◌, length};
+ghost use Rattle.std.specs.Prelude.{◌≡◌, ◌+◌, ◌≤◌, length, IfOk};
+ghost use Rattle.model.specs.NetworkFile.{network};
 ghost use Rattle.model.specs.Calls.{said_check, check_call, body_call};
 ghost use Rattle.octets.specs.Part.{PartOf};
+ghost use Rattle.table.specs.Table.{Within};
+ghost use Rattle.index.specs.Verdicts.{verdict_in};
 ghost use Rattle.network.specs.Answers.{Checked, Lies, Found};
 
 use lookup::Net;
 use model::{ProcessId, Reason, Refusal, RuleId};
+use table::Counts;
 
 // The most bytes that a network file may have.
 const MOST: usize = 16384;
 
-// What the check finds: the network of an accepted file, its table filled; or the refusal.
-pub fn checked<'a>(file: &'a [u8], table: &'a mut [u16]) -> Result<Net<'a>, Refusal>
+// What the check finds: the counts of an accepted file, whose table then holds where each field stands; or the refusal.
+pub fn checked(file: &[u8], table: &mut [u16]) -> Result<Counts, Refusal>
     requires { 656 ≤ length table.old }
-    ensures { Checked file.now result }
+    ensures result_after { verdict_in table.new result ≡ network file.now }
+    ensures fit { IfOk result (λ c. Within c) }
 {
     if MOST < file.len() {
         return Err(Refusal {
@@ -31,6 +36,16 @@ pub fn checked<'a>(file: &'a [u8], table: &'a mut [u16]) -> Result<Net<'a>, Refu
             place: w,
         });
     }
+    Ok(counts)
+}
+
+// The network of an accepted file, over a table that stays lent for it; or the refusal.
+pub fn accepted<'a, 't>(file: &'a [u8], table: &'t mut [u16]) -> Result<Net<'a, 't>, Refusal>
+    requires { 656 ≤ length table.old }
+    ensures found { Checked file.now result }
+    ensures that_file { IfOk result (λ n. n.file ≡ file.entry) }
+{
+    let counts = checked(file, table)?;
     Ok(Net {
         file,
         table,
@@ -43,8 +58,10 @@ pub fn check(file: &[u8]) -> Result<(), Refusal>
     ensures { said_check result ≡ check_call file.now }
 {
     let mut table = [0u16; 656];
-    checked(file, &mut table)?;
-    Ok(())
+    match checked(file, &mut table) {
+        Ok(_) => Ok(()),
+        Err(refusal) => Err(refusal),
+    }
 }
 
 // A stretch of a file: where it begins, and how many bytes it has.
@@ -76,7 +93,7 @@ pub fn rule_stretch(file: &[u8], b: ProcessId, r: RuleId) -> Stretch
     ensures { Lies file.now b.0 r.0 result }
 {
     let mut table = [0u16; 656];
-    let found = checked(file, &mut table)
+    let found = accepted(file, &mut table)
         .ok()
         .and_then(|net| stretch_in(&net, b, r));
     found.unwrap_or(Stretch {

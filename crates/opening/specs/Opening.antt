@@ -1,11 +1,13 @@
 -- What the opening of a call finds: all that the next step asks for, or the refusal that the call answers.
 -- Assumes nothing.
 use Rattle.std.specs.Prelude.{ℕ, ◌≡◌, true, List, Result, Ok, Err, ⊤}
+use denote.Ref.{Bor}
 use Rattle.model.specs.declared.Refusal.{Refusal}
 use Rattle.model.specs.Reasons.{reason_number}
 use Rattle.model.specs.NetworkFile.{Verdict, good, refuse, next, network}
 use Rattle.model.specs.States.{token_file, input_types}
 use Rattle.model.specs.Calls.{with_tokens, held}
+use Rattle.table.specs.declared.Counts.{Counts}
 use Rattle.lookup.specs.Views.{network_of}
 use Rattle.places.specs.declared.Plan.{Plan}
 use Rattle.places.specs.declared.Site.{Site}
@@ -22,6 +24,15 @@ Refuses v r = v ≡ refuse (reason_number r.reason) r.place
 -- the token file of a site is accepted
 abbrev pub Accepted : Site → Type 0
 Accepted x = let n = x.plan.net in token_file (input_types (network_of n) (network_of n).procs) x.tokens.now ≡ good (tokens_of n.file.now n.table.now n.counts x.tokens.now)
+
+-- a feed of these very files, with what the tables t, p and f hold
+pub record Over (s ts : Bor (List ℕ)) (t p f : List ℕ) (c : Counts) (d : Feed) : Type 0 where
+  pub file : d.site.plan.net.file ≡ s
+  pub table : d.site.plan.net.table.now ≡ t
+  pub counts : d.site.plan.net.counts ≡ c
+  pub starts : d.site.plan.starts.now ≡ p
+  pub tokens : d.site.tokens ≡ ts
+  pub fields : d.fields.now ≡ f
 
 -- network file s and token file ts are accepted
 pub record OpenFiles (s ts : List ℕ) (f : Feed) : Type 0 where

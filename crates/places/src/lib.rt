@@ -56,7 +56,7 @@ pub struct Span {
 // An accepted network with the starts of the segments of its states.
 #[derive(Clone, Copy)]
 pub struct Plan<'a> {
-    pub net: Net<'a>,
+    pub net: Net<'a, 'a>,
     pub starts: &'a [u16],
     pub ghost placed: { Placed (network_of net) starts.now } by { Placed_prop (network_of net) starts.now },
 }
@@ -90,7 +90,7 @@ impl<'a> Plan<'a> {
     }
 }
 
-// An accepted network with an accepted token file: what a lent state belongs to.
+// An accepted network with a token file: what a lent state belongs to. That the file is accepted too, a contract says.
 #[derive(Clone, Copy)]
 pub struct Site<'a> {
     pub plan: Plan<'a>,

@@ -170,7 +170,7 @@ impl<'a> Page<'a> {
         ensures { Wrote (lines_in net.now tokens.now state.now) self.old self.new }
     {
         let mut tables = Tables::new();
-        if let Ok(feed) = opening::open_state(net, tokens, state, &mut tables) {
+        if let Ok(feed) = tables.open_state(net, tokens, state) {
             self.outputs(&feed.site, state);
         }
     }

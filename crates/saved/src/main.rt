@@ -53,7 +53,7 @@ fn print_write(rt: &impl Print, net: &[u8], state: &[u8], out: &mut [u8]) -> io:
 // Whether a saved state is taken, with its files.
 fn print_held(rt: &impl Print, net: &[u8], tokens: &[u8], state: &[u8]) -> io::Result<()> {
     let mut tables = Tables::new();
-    match opening::open_state(net, tokens, state, &mut tables) {
+    match tables.open_state(net, tokens, state) {
         Ok(_) => print!(rt; "held"),
         Err(refusal) => print_refusal(rt, refusal),
     }

@@ -10,6 +10,7 @@ use Rattle.model.specs.States.{wire_size, own_size, wire_fits, own_fits, split, 
 use Rattle.queues.specs.Segments.{wire_start, own_start}
 use Rattle.lookup.specs.Views.{index_of}
 use Rattle.places.specs.declared.Plan.{Plan}
+use Rattle.places.specs.declared.Site.{Site}
 use Rattle.places.specs.Standing.{tokens_of}
 use Rattle.states.specs.declared.Basis.{Basis}
 use Rattle.states.specs.declared.Basis.TheVariants as basis
@@ -17,17 +18,24 @@ use Rattle.states.specs.declared.Basis.TheVariants as basis
 -- the network with the places of a state's parts
 abbrev pub plan_of : Basis → Plan
 plan_of (basis.Network p) = p
+plan_of (basis.Uncounted s) = s.plan
 plan_of (basis.Files f) = f.site.plan
 
 -- taken counts are looked at
 abbrev pub counted : Basis → Bool
 counted (basis.Network p) = false
+counted (basis.Uncounted s) = false
 counted (basis.Files f) = true
+
+-- the tokens of each input of a site
+abbrev pub tokens_at : Site → List (List Token)
+tokens_at s = let n = s.plan.net in tokens_of n.file.now n.table.now n.counts s.tokens.now
 
 -- the tokens of each input, none without a token file
 abbrev pub tokens_for : Basis → List (List Token)
 tokens_for (basis.Network p) = []
-tokens_for (basis.Files f) = let n = f.site.plan.net in tokens_of n.file.now n.table.now n.counts f.site.tokens.now
+tokens_for (basis.Uncounted s) = tokens_at s
+tokens_for (basis.Files f) = tokens_at f.site
 
 -- the network with those tokens
 abbrev pub network_for : Basis → Net

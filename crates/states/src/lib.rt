@@ -12,7 +12,7 @@ ghost use Rattle.states.specs.Saved.{plan_of, network_for, counted, input_fits, 
 
 use lookup::Net;
 use model::{ProcessId, WireId};
-use places::Plan;
+use places::{Plan, Site};
 use token_file::Feed;
 
 // How many bytes a state takes: where its last segment ends.
@@ -70,10 +70,11 @@ fn wires_fit(plan: &Plan, state: &[u8]) -> bool
     true
 }
 
-// What a state is checked against: the network, or the network with a token file, and then no input may have taken more tokens than the file has for it.
+// What a state is checked against: the network, alone or with a token file whose tokens aren't counted; or both files, and then no input may have taken more tokens than its file has for it.
 #[derive(Clone, Copy)]
 pub enum Basis<'a> {
     Network(Plan<'a>),
+    Uncounted(Site<'a>),
     Files(Feed<'a>),
 }
 
@@ -84,18 +85,20 @@ impl<'a> Basis<'a> {
     {
         match self {
             Basis::Network(plan) => plan,
+            Basis::Uncounted(site) => &site.plan,
             Basis::Files(feed) => &feed.site.plan,
         }
     }
 }
 
-// An input has taken no more tokens than the token file has for it; not asked without a token file.
+// An input has taken no more tokens than the token file has for it; asked only where they are counted.
 fn input_fits(basis: &Basis, i: usize, part: &[u8]) -> bool
     requires { i < (plan_of basis.now).net.counts.inputs }
     ensures { result ≡ input_fits basis.now i part.now }
 {
     match basis {
         Basis::Network(_) => true,
+        Basis::Uncounted(_) => true,
         Basis::Files(feed) => octets::two_at(part, 0) <= feed.input_count(i),
     }
 }
@@ -154,7 +157,7 @@ fn owns_fit(basis: &Basis, state: &[u8]) -> bool
     true
 }
 
-// A saved state: every wire and every process holds what it may; taken counts are looked at where there is a token file.
+// A saved state: every wire and every process holds what it may; taken counts are looked at where the basis counts them.
 pub fn state_fits(basis: &Basis, state: &[u8]) -> bool
     requires { state_size (network_of (plan_of basis.now).net) ≤ length state.now }
     ensures { result ≡ state_fits (network_for basis.now) (counted basis.now) state.now }

@@ -7,8 +7,8 @@ pub returns-in_err-feed : goal.returns-in_err-feed
 unfolding FilesOpened
 returns-in_err-feed c =
     let p = err_from_is_err_and c.from_residual.result c.from_residual.ensures.1 in
-    rw (p.1, p.2) (load-refused _ _ _ _ c.in_err-feed.ensures)
+    rw (p.1, p.2) (load-refused _ _ _ _ c.in_err-feed.ensures.opened)
 
 pub returns : goal.returns
 unfolding FilesOpened
-returns c = load_open _ _ _ _ c.in_ok-feed.ensures _ c.load_in.ensures
+returns c = load_open _ _ _ _ c.in_ok-feed.ensures.opened _ c.load_in.ensures

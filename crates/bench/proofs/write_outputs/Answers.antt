@@ -7,8 +7,8 @@ pub returns-in_err-plan : goal.returns-in_err-plan
 unfolding NetworkOpened
 returns-in_err-plan c =
     let p = err_from_is_err_and c.from_residual.result c.from_residual.ensures.1 in
-    rw (p.1, p.2) (write-refused _ _ _ _ c.in_err-plan.ensures)
+    rw (p.1, p.2) (write-refused _ _ _ _ c.in_err-plan.ensures.opened)
 
 pub returns : goal.returns
 unfolding NetworkOpened
-returns c = write_open _ _ _ c.in_ok-plan.plan c.in_ok-plan.ensures _ c.write_in.ensures
+returns c = write_open _ _ _ c.in_ok-plan.plan c.in_ok-plan.ensures.opened _ c.write_in.ensures
