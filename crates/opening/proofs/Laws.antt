@@ -102,6 +102,18 @@ pub files-refused : (s ts b : List ℕ) (n p : ℕ) → with_tokens s ts ≡ ref
 unfolding next
 files-refused s ts b n p e = rw e refl
 
+-- of a feed
+module _ (s ts : List ℕ) (f : Feed) (h : OpenFiles s ts f) (b : List ℕ) where
+  pub state_refused : (n p : ℕ) → held true b (network_for (basis.Files f)) ≡ refuse n p → next (with_tokens s ts) (held true b) ≡ refuse n p
+  unfolding next net_in
+  state_refused n p e = rw (with_tokens_lem s ts f h) e
+
+  pub state_open : Holds (network_for (basis.Files f)) true b → Octets b → OpenState s ts b f
+  unfolding bare_net net_in
+  state_open k o =
+      let plan = f.site.plan in
+      record { files = h; standing = record { tabled = plan.net.tabled; placed = plan.placed; tokens = h.accepted; octets = o; long = k.long; fits = k.fits } }
+
 -- by what the lent tables hold
 module _ (s ts t p f : List ℕ) (c : Counts) (size : ℕ) (h : OpenWith s ts t p f c size) where
   with_tokens_in : with_tokens s ts ≡ good (net_in s t c ts)
@@ -109,12 +121,12 @@ module _ (s ts t p f : List ℕ) (c : Counts) (size : ℕ) (h : OpenWith s ts t 
   with_tokens_in = rw (h.net.tabled.found, h.tokens) refl
 
   module _ (b : List ℕ) where
-    pub state_refused : (n p : ℕ) → held true b (net_in s t c ts) ≡ refuse n p → next (with_tokens s ts) (held true b) ≡ refuse n p
+    pub state_refused_in : (n p : ℕ) → held true b (net_in s t c ts) ≡ refuse n p → next (with_tokens s ts) (held true b) ≡ refuse n p
     unfolding next
-    state_refused n p e = rw with_tokens_in e
+    state_refused_in n p e = rw with_tokens_in e
 
-    pub state_open : Holds (net_in s t c ts) true b → Octets b → OpenOn s ts t p f b c size
-    state_open k o = record { files = h; standing = record { tabled = h.net.tabled; placed = h.net.placed; tokens = h.tokens; octets = o; long = k.long; fits = k.fits } }
+    pub state_open_in : Holds (net_in s t c ts) true b → Octets b → OpenOn s ts t p f b c size
+    state_open_in k o = record { files = h; standing = record { tabled = h.net.tabled; placed = h.net.placed; tokens = h.tokens; octets = o; long = k.long; fits = k.fits } }
 
 -- ── a feed of what was opened ────────────────────────────────────────────────────────────────
 

@@ -115,15 +115,20 @@ pub record Upto (types : List Ty) (f p : List ℕ) (at i : ℕ) : Type 0 where
 pub upto_first : (types : List Ty) (f p : List ℕ) → Upto types f p 0 0
 upto_first types f p = record { whole = ahead_none (tokens_from types f 0); inside = λ j h. absurd (omega (arith, h)) }
 
-pub upto_next : (types : List Ty) (f p : List ℕ) (at i end : ℕ) → Upto types f p at i → i < length p → Went types f (noted f p i) i at end → Upto types f (set p i at) end (i + 1)
-upto_next types f p at i end u l w = record {
-  whole = ap (λ (b : List (List Token)). left types f b (i + 1) end) (noted_more f p i at l) ∙ sym w.more ∙ u.whole;
+-- one field more: what is left goes on behind it
+pub upto_more : (types : List Ty) (f p : List ℕ) (at i end : ℕ) → Upto types f p at i → i < length p
+    → left types f (noted f p i) i at ≡ left types f (noted f p i ++ (tokens_in (body_at f at) ∷ [])) (i + 1) end → InFile f at → Upto types f (set p i at) end (i + 1)
+upto_more types f p at i end u l more inside = record {
+  whole = ap (λ (b : List (List Token)). left types f b (i + 1) end) (noted_more f p i at l) ∙ sym more ∙ u.whole;
   inside = λ j h. by_place j h (ℕ_discrete j i);
 }
   where
     by_place : (j : ℕ) → j < i + 1 → Dec (j ≡ i) → InFile f (get_or (set p i at) j 0)
-    by_place j h (yes z) = rw (z, get_or-set_same p i at 0 l) w.inside
+    by_place j h (yes z) = rw (z, get_or-set_same p i at 0 l) inside
     by_place j h (no g) = rw (get_or-set_other p i j at 0 g) (u.inside j (omega (arith, h, g)))
+
+pub upto_next : (types : List Ty) (f p : List ℕ) (at i end : ℕ) → Upto types f p at i → i < length p → Went types f (noted f p i) i at end → Upto types f (set p i at) end (i + 1)
+upto_next types f p at i end u l w = upto_more types f p at i end u l w.more w.inside
 
 -- ── the whole file ───────────────────────────────────────────────────────────────────────────
 

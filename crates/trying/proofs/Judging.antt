@@ -20,6 +20,7 @@ use Rattle.expressions.specs.Reading.{limits_read}
 use Rattle.rules.specs.Bodies.{actions_from, limits_of}
 use Rattle.rules.proofs.Laying.{Found, rule_is, rule_read_lem}
 use Rattle.typing.specs.Fits.{exp_read, list_read}
+use Rattle.typing.proofs.Actions.{outputs_too, limits_read_lem}
 use Rattle.matching.specs.Outs.{open_from, outs_of}
 use Rattle.actions.specs.Acts.{has_type, all_typed, faults_of, mark_or}
 use Rattle.actions.proofs.Acting.{Ready}
@@ -54,8 +55,13 @@ module _ (a : Arity) (b : List ℕ) (types : List ℕ) (w : Workable a b types) 
   outs_is : (at : ℕ) → at ≡ p.outs → list_read (actions_from false a.outs at b) ≡ ru.outs
   outs_is at e = ap (λ (k : ℕ). list_read (actions_from false a.outs k b)) e ∙ (held w.laid).outs
 
-  sets_is : (at : ℕ) → at ≡ p.sets → list_read (actions_from true a.vars at b) ≡ ru.sets
-  sets_is at e = ap (λ (k : ℕ). list_read (actions_from true a.vars k b)) e ∙ (held w.laid).sets
+  -- a variable's actions, read as an output's or as a variable's
+  sets_too : (var : Bool) (at : ℕ) → at ≡ p.sets → actions_from var a.vars at b ≡ actions_from true a.vars p.sets b
+  sets_too true at e = ap (λ (k : ℕ). actions_from true a.vars k b) e
+  sets_too false at e = ap (λ (k : ℕ). actions_from false a.vars k b) e ∙ outputs_too a.vars p.sets b (limits_read_lem _ w.kept.sets)
+
+  sets_is : (var : Bool) (at : ℕ) → at ≡ p.sets → list_read (actions_from var a.vars at b) ≡ ru.sets
+  sets_is var at e = ap list_read (sets_too var at e) ∙ (held w.laid).sets
 
   -- what the guard and the actions ask for, from where they begin
   pub guard_ready : (at : ℕ) → at ≡ p.guard → (limits_read (expression (drop at b)) ≡ true) × (has_type (scope_in types) (exp_read (expression (drop at b))) ≡ true)
@@ -64,8 +70,8 @@ module _ (a : Arity) (b : List ℕ) (types : List ℕ) (w : Workable a b types) 
   pub outs_ready : (at : ℕ) → at ≡ p.outs → Ready (scope_in types) false b a.outs at
   outs_ready at e = record { limits = ap (λ (k : ℕ). limits_of (actions_from false a.outs k b)) e ∙ w.kept.outs; typed = ap (all_typed (scope_in types)) (outs_is at e) ∙ w.judged.outs }
 
-  pub sets_ready : (at : ℕ) → at ≡ p.sets → Ready (scope_in types) true b a.vars at
-  sets_ready at e = record { limits = ap (λ (k : ℕ). limits_of (actions_from true a.vars k b)) e ∙ w.kept.sets; typed = ap (all_typed (scope_in types)) (sets_is at e) ∙ w.judged.sets }
+  pub sets_ready : {var : Bool} (at : ℕ) → at ≡ p.sets → Ready (scope_in types) var b a.vars at
+  sets_ready {var} at e = record { limits = ap limits_of (sets_too var at e) ∙ w.kept.sets; typed = ap (all_typed (scope_in types)) (sets_is var at e) ∙ w.judged.sets }
 
   module _ (en : Env) where
     -- the chosen rule: a fault of its outputs, a fault of its variables, none
@@ -73,23 +79,23 @@ module _ (a : Arity) (b : List ℕ) (types : List ℕ) (w : Workable a b types) 
       abbrev outs_faults : Result ⊤ Fault
       outs_faults = faults_of en (list_read (actions_from false a.outs x b))
 
-      abbrev sets_faults : Result ⊤ Fault
-      sets_faults = faults_of en (list_read (actions_from true a.vars y b))
+      abbrev sets_faults : Bool → Result ⊤ Fault
+      sets_faults var = faults_of en (list_read (actions_from var a.vars y b))
 
-      chosen_is : chosen en ru 0 ≡ mark_or outs_faults (mark_or sets_faults (fires 0))
-      chosen_is = chosen_faults en ru 0 ∙ rw (outs_is x ex, sets_is y ey)
+      chosen_is : (var : Bool) → chosen en ru 0 ≡ mark_or outs_faults (mark_or (sets_faults var) (fires 0))
+      chosen_is var = chosen_faults en ru 0 ∙ rw (outs_is x ex, sets_is var y ey)
 
       pub chosen_outs : (n : Fault) → Err n ≡ outs_faults → Err n ≡ judged_as (chosen en ru 0)
       unfolding mark_or judged_as
-      chosen_outs n e = sym (ap judged_as chosen_is ∙ rw (← e))
+      chosen_outs n e = sym (ap judged_as (chosen_is true) ∙ rw (← e))
 
-      pub chosen_sets : (n : Fault) → Ok tt ≡ outs_faults → Err n ≡ sets_faults → Err n ≡ judged_as (chosen en ru 0)
+      pub chosen_sets : (var : Bool) (n : Fault) → Ok tt ≡ outs_faults → Err n ≡ sets_faults var → Err n ≡ judged_as (chosen en ru 0)
       unfolding mark_or judged_as
-      chosen_sets n e g = sym (ap judged_as chosen_is ∙ rw (← e, ← g))
+      chosen_sets var n e g = sym (ap judged_as (chosen_is var) ∙ rw (← e, ← g))
 
-      pub chosen_fires : Ok tt ≡ outs_faults → Ok tt ≡ sets_faults → Ok true ≡ judged_as (chosen en ru 0)
+      pub chosen_fires : (var : Bool) → Ok tt ≡ outs_faults → Ok tt ≡ sets_faults var → Ok true ≡ judged_as (chosen en ru 0)
       unfolding mark_or judged_as
-      chosen_fires e g = sym (ap judged_as chosen_is ∙ rw (← e, ← g))
+      chosen_fires var e g = sym (ap judged_as (chosen_is var) ∙ rw (← e, ← g))
 
     module _ (full : List ℕ) (at : ℕ) (ea : at ≡ p.guard) where
       abbrev judged : Result Bool Fault

@@ -6,7 +6,7 @@ use Rattle.model.specs.Calls.{held}
 use Rattle.states.specs.Saved.{Holds}
 use Rattle.opening.specs.Filled.{FilesFilled, StateFilled}
 use Rattle.opening.specs.Opening.{Held}
-use Rattle.opening.proofs.Laws.{files-refused, network_same, state_refused, state_open}
+use Rattle.opening.proofs.Laws.{files-refused, network_same, state_refused_in, state_open_in}
 use Rattle.opening.proofs.open_state.Goals as goal
 
 pub returns-in_err-opened : goal.returns-in_err-opened
@@ -25,10 +25,10 @@ returns-in_err-held c =
     let r = c.from_residual-in_err-held in
     let p = err_from_is_err_and r.result r.ensures.1 in
     let same = network_same _ _ _ _ _ _ _ c.feed_of-feed.ensures in
-    rw (p.1, p.2) (state_refused _ _ _ _ _ _ _ c.in_ok-opened.ensures _ _ _ (ap (held true c.args.state.now) (sym same) ∙ c.in_err-held.ensures))
+    rw (p.1, p.2) (state_refused_in _ _ _ _ _ _ _ c.in_ok-opened.ensures _ _ _ (ap (held true c.args.state.now) (sym same) ∙ c.in_err-held.ensures))
 
 pub returns : goal.returns
 unfolding FilesFilled Held StateFilled
 returns c =
     let same = network_same _ _ _ _ _ _ _ c.feed_of-feed.ensures in
-    state_open _ _ _ _ _ _ _ c.in_ok-opened.ensures _ (subst (λ (n : Net). Holds n true c.args.state.now) same c.in_ok-held.ensures) (λ i. (c.type_inv.state i).fits)
+    state_open_in _ _ _ _ _ _ _ c.in_ok-opened.ensures _ (subst (λ (n : Net). Holds n true c.args.state.now) same c.in_ok-held.ensures) (λ i. (c.type_inv.state i).fits)

@@ -1,4 +1,5 @@
 use mathlib.Core.Path.{sym, ◌∙◌}
+use mathlib.Core.Bool.{true}
 use Rattle.std.proofs.lemmas.Result.{err_from_is_err_and}
 use Rattle.trying.proofs.Judging.{outs_ready, sets_ready, chosen_outs, chosen_sets, chosen_fires}
 use Rattle.trying.proofs.chosen.Goals as goal
@@ -23,9 +24,9 @@ pub returns-in_err-sets_fault : goal.returns-in_err-sets_fault
 returns-in_err-sets_fault c =
     let h = c.requires in
     let e = err_from_is_err_and c.from_residual-in_err-sets_fault.result c.from_residual-in_err-sets_fault.ensures.1 in
-    rw (e.1, e.2) (chosen_sets _ _ _ h.work _ _ _ h.outs h.sets _ (sym c.in_ok-actions_fault.was ∙ c.actions_fault.ensures) (sym c.in_err-sets_fault.was ∙ c.sets_fault.ensures))
+    rw (e.1, e.2) (chosen_sets _ _ _ h.work _ _ _ h.outs h.sets true _ (sym c.in_ok-actions_fault.was ∙ c.actions_fault.ensures) (sym c.in_err-sets_fault.was ∙ c.sets_fault.ensures))
 
 pub returns : goal.returns
 returns c =
     let h = c.requires in
-    chosen_fires _ _ _ h.work _ _ _ h.outs h.sets (sym c.in_ok-actions_fault.was ∙ c.actions_fault.ensures) (sym c.in_ok-sets_fault.was ∙ c.sets_fault.ensures)
+    chosen_fires _ _ _ h.work _ _ _ h.outs h.sets true (sym c.in_ok-actions_fault.was ∙ c.actions_fault.ensures) (sym c.in_ok-sets_fault.was ∙ c.sets_fault.ensures)
